@@ -1,2 +1,3 @@
+pub mod Banks
 pub mod Causes
 pub mod Leaves

@@ -1,4 +1,5 @@
 // The words that every other crate shares: what a cell is, why a call is refused, what a leaf kind promises.
+pub mod banks;
 pub mod causes;
 pub mod leaves;
 

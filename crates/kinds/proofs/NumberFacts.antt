@@ -199,7 +199,7 @@ same-finite (fin s m e) (fin t n d) x y p q f g u v =
     iff (eq (fin s m e) (fin t n d)) (eqb (toBits binary32 x) (toBits binary32 y))
     (λ h. let k : toBits binary32 x ≡ toBits binary32 y = ap (toBits binary32) u ∙ equal-forth s t m n e d h ∙ sym (ap (toBits binary32) v) in grind (arith, tells))
     (λ h. let k : toBits binary32 x ≡ toBits binary32 y = grind (arith, tells) in
-        equal-back s t m n e d (sym u ∙ sym (tidy-back (fin s m e) x p) ∙ ap (ofBits binary32) k ∙ tidy-back (fin t n d) y q ∙ v))
+    equal-back s t m n e d (sym u ∙ sym (tidy-back (fin s m e) x p) ∙ ap (ofBits binary32) k ∙ tidy-back (fin t n d) y q ∙ v))
 
 pub same-number : (a b x y : Float) → tidiedNumber a ≡ Some x → tidiedNumber b ≡ Some y → eq a b ≡ eqb (pattern x) (pattern y)
 unfolding pattern
@@ -237,6 +237,7 @@ plain-by-pattern n h = go (finite (ofBits binary32 n)) refl
   where
     f : fits binary32 (ofBits binary32 n) ≡ true
     f = is-true (fits binary32 (ofBits binary32 n)) (ofBits-fits binary32 n)
+
     go : (b : Bool) → finite (ofBits binary32 n) ≡ b → plain (ofBits binary32 n) ≡ (ltb (n % 2 ^ 31) 0x7f80_0000 && not (eqb n 0x8000_0000))
     go false e = let p = plain-parts (ofBits binary32 n) f in let q = finite-by-pattern n in grind (arith, tells)
     go true e =
@@ -244,7 +245,7 @@ plain-by-pattern n h = go (finite (ofBits binary32 n)) refl
         let p = plain-parts (ofBits binary32 n) f in
         let q = finite-by-pattern n in
         let z : (negative (ofBits binary32 n) && eq (ofBits binary32 n) floats.zero) ≡ eqb n 0x8000_0000 =
-            negative-zero-by-pattern (ofBits binary32 n) a ∙ ap (λ k. eqb k 0x8000_0000) (back a) in
+        negative-zero-by-pattern (ofBits binary32 n) a ∙ ap (λ k. eqb k 0x8000_0000) (back a) in
         grind (arith, tells)
       where
         back : accepted (ofBits binary32 n) ≡ true → pattern (ofBits binary32 n) ≡ n

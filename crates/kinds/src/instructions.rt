@@ -57,14 +57,22 @@ pub impl LeafKind for Instruction as InstructionKind {
             return None;
         }
         let argument = self.argument.cast_unsigned();
-        Some(self.operation as u64 * 0x100_0000_0000_0000 + self.channel as u64 * 0x1_0000_0000_0000 + argument as u64)
+        Some(
+            self.operation as u64 * 0x100_0000_0000_0000
+                + self.channel as u64 * 0x1_0000_0000_0000
+                + argument as u64,
+        )
     }
 
     fn from_word(w: u64) -> Option<Instruction> {
         let operation = (w / 0x100_0000_0000_0000) as u8;
         let channel = (w / 0x1_0000_0000_0000 % 0x100) as u8;
         let argument = ((w % 0x1_0000_0000) as u32).cast_signed();
-        let i = Instruction { operation, channel, argument };
+        let i = Instruction {
+            operation,
+            channel,
+            argument,
+        };
         if w / 0x1_0000_0000 % 0x1_0000 == 0 && i.is_lawful() {
             Some(i)
         } else {

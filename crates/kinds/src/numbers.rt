@@ -22,7 +22,11 @@ pub fn to_pattern(x: f32) -> Option<u32>
         return None;
     }
     let bits = x.to_bits();
-    if bits == 0x8000_0000 { None } else { Some(bits) }
+    if bits == 0x8000_0000 {
+        None
+    } else {
+        Some(bits)
+    }
 }
 
 // The plain number that has this pattern.

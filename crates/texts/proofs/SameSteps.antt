@@ -19,9 +19,9 @@ module _ {V : Type 0} (tidied : V → Option V) (alike : V → V → Bool) (xs y
   same-more i d e p q below here =
       let P : ℕ → Type 0 = λ k. (d e : Entry V) → sameValue tidied alike (getD xs k d .value) (getD ys k e .value) ≡ true in
       let all = below-more P i (λ k h d′ e′. below k d′ e′ h) (λ d′ e′.
-          ap (λ x. sameValue tidied alike (x .value) (getD ys i e′ .value)) (getD-default xs i d′ d p)
-          ∙ ap (λ y. sameValue tidied alike (getD xs i d .value) (y .value)) (getD-default ys i e′ e q)
-          ∙ here) in
+      ap (λ x. sameValue tidied alike (x .value) (getD ys i e′ .value)) (getD-default xs i d′ d p)
+      ∙ ap (λ y. sameValue tidied alike (getD xs i d .value) (y .value)) (getD-default ys i e′ e q)
+      ∙ here) in
       λ k d′ e′ h. all k h d′ e′
 
   pub ends-apart : (n : ℕ) → n ≡ min (length xs) (length ys) → (length xs ≡ length ys → ⊥) → ApartAt tidied alike xs ys n

@@ -11,7 +11,11 @@ fn hex_digit(n: u8) -> char
     ensures { λ r. ⌜ r ≡ hexDigit (n % 16) ⌝ }
 {
     let d = n % 16;
-    if d < 10 { char::from(b'0' + d) } else { char::from(b'A' + (d - 10)) }
+    if d < 10 {
+        char::from(b'0' + d)
+    } else {
+        char::from(b'A' + (d - 10))
+    }
 }
 
 // Writes the lowest `digits` hexadecimal digits of `w` after what `out` has.

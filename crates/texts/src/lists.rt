@@ -5,13 +5,13 @@ ghost use Rattle.std.specs.Of.String.{string-bytes};
 ghost use Rattle.std.specs.Of.Vec.{vec-items};
 ghost use Rattle.std.specs.Vec.{made};
 ghost use Rattle.texts.specs.Lists.{sameValue, FirstDifference, valueLine, refusalLine, EntryLine, Lawful, Found, Tidy, placeText, verdictLine};
+use crate::hex::push_hex;
+use crate::typed::TypedLeaf;
 use cells::causes::Cause;
 use cells::causes::CauseDebug;
 use cells::causes::CauseDisplay;
 use cells::leaves::LeafKind;
 use cells::leaves::compare;
-use crate::hex::push_hex;
-use crate::typed::TypedLeaf;
 use std::alloc::AllocError;
 use std::alloc::Global;
 use std::alloc::Refused;
@@ -81,7 +81,12 @@ pub fn entry_line<V: TypedLeaf>(heap: Global, entry: Entry<V>) -> Result<String,
 }
 
 // Where a list has its entry `i`, in words.
-fn place_text<V: LeafKind>(heap: Global, name: &str, list: &[Entry<V>], i: usize) -> Result<String, AllocError>
+fn place_text<V: LeafKind>(
+    heap: Global,
+    name: &str,
+    list: &[Entry<V>],
+    i: usize,
+) -> Result<String, AllocError>
     ensures { λ r. ⌜ made r (λ s. string-bytes s ≡ placeText (now (name .entry)) (now (list .entry)) i) ⌝ }
 {
     if i < list.len() {
@@ -93,7 +98,14 @@ fn place_text<V: LeafKind>(heap: Global, name: &str, list: &[Entry<V>], i: usize
 }
 
 // The last line of a report on two lists, by where they first differ.
-pub fn verdict_line<V: LeafKind>(heap: Global, a_name: &str, a: &[Entry<V>], b_name: &str, b: &[Entry<V>], apart: Option<usize>) -> Result<String, AllocError>
+pub fn verdict_line<V: LeafKind>(
+    heap: Global,
+    a_name: &str,
+    a: &[Entry<V>],
+    b_name: &str,
+    b: &[Entry<V>],
+    apart: Option<usize>,
+) -> Result<String, AllocError>
     ensures { λ r. ⌜ made r (λ s. string-bytes s ≡ verdictLine (now («a_name» .entry)) (now (a .entry)) (now («b_name» .entry)) (now (b .entry)) apart) ⌝ }
 {
     let Some(i) = apart else {
@@ -126,7 +138,10 @@ pub impl<T: Drop> From<Refused<T>> for ListFault as ListFaultFromRefused {
 }
 
 // The tidied value that a line holds, or its refusal; none where the words of the line are no numbers.
-pub fn read_value<V: TypedLeaf>(heap: Global, line: &str) -> Result<Option<Result<V, Cause>>, AllocError>
+pub fn read_value<V: TypedLeaf>(
+    heap: Global,
+    line: &str,
+) -> Result<Option<Result<V, Cause>>, AllocError>
     ensures { λ r. ⌜ made r (λ o. Found o (λ v. Lawful (V·LeafKind .lawful) v)) ⌝ }
 {
     let words: Vec<&str> = line.split_whitespace().collect(heap)?;
@@ -152,7 +167,10 @@ pub fn read_list<V: TypedLeaf>(heap: Global, text: &str) -> Result<Vec<Entry<V>>
         let Some(value) = read_value::<V>(heap, line)? else {
             return Err(ListFault::Unreadable(number));
         };
-        entries.push(Entry { line: number, value })?;
+        entries.push(Entry {
+            line: number,
+            value,
+        })?;
     }
     Ok(entries)
 }

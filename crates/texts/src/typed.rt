@@ -106,10 +106,18 @@ fn fit(operation: i64, channel: i64, argument: i64) -> Result<Instruction, Cause
     let Ok(argument) = i32::try_from(argument) else {
         return Err(Cause::ValueRefused);
     };
-    Ok(Instruction { operation, channel, argument })
+    Ok(Instruction {
+        operation,
+        channel,
+        argument,
+    })
 }
 
-fn read_instruction(operation: &str, channel: &str, argument: &str) -> Option<Result<Instruction, Cause>>
+fn read_instruction(
+    operation: &str,
+    channel: &str,
+    argument: &str,
+) -> Option<Result<Instruction, Cause>>
     ensures { λ r. ⌜ ReadsInstruction (now (operation .entry)) (now (channel .entry)) (now (argument .entry)) r ⌝ }
 {
     let operation = read_whole(operation)?;

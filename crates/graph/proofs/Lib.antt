@@ -1,0 +1,10 @@
+pub mod Matching
+pub mod Reading
+pub mod Partners
+pub mod Counting
+pub mod Ordered
+pub mod Firsts
+pub mod Tags
+pub mod Same
+pub mod Decided
+pub mod Tried

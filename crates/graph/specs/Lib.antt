@@ -1,0 +1,5 @@
+pub mod Graphs
+pub mod Places
+pub mod Checks
+pub mod Theorems
+pub mod Examples
