@@ -49,5 +49,8 @@ pub fn compare<V: LeafKind>(a: V, b: V) -> Result<bool, Cause>
 {
     let x = a.tidy()?;
     let y = b.tidy()?;
-    Ok(x.to_word() == y.to_word())
+    match (x.to_word(), y.to_word()) {
+        (Some(p), Some(q)) => Ok(p == q),
+        _ => Err(Cause::ValueRefused),
+    }
 }

@@ -16,7 +16,7 @@ use Rattle.std.specs.Floats as floats
 use Rattle.std.specs.Floats.{finite, negative}
 use Rattle.std.proofs.shelf.Ways.{tells}
 use Rattle.std.specs.declared.option.Option.the-variants.{Some, None}
-use Rattle.kinds.specs.Numbers.{accepted, plain, tidiedNumber, pattern, takenNumber}
+use Rattle.kinds.specs.Numbers.{accepted, plain, tidiedNumber, pattern, plainPattern, takenNumber}
 
 iff : (a b : Bool) → (a ≡ true → b ≡ true) → (b ≡ true → a ≡ true) → a ≡ b
 iff true b p q = sym (p refl)
@@ -232,13 +232,13 @@ pub accepted-finite : (x : Float) → fits binary32 x ≡ true → finite x ≡ 
 unfolding accepted
 accepted-finite x f g = grind (arith, tells)
 
-pub plain-by-pattern : (n : ℕ) → n < 2 ^ 32 → plain (ofBits binary32 n) ≡ (ltb (n % 2 ^ 31) 0x7f80_0000 && not (eqb n 0x8000_0000))
+pub plain-by-pattern : (n : ℕ) → n < 2 ^ 32 → plain (ofBits binary32 n) ≡ plainPattern n
 plain-by-pattern n h = go (finite (ofBits binary32 n)) refl
   where
     f : fits binary32 (ofBits binary32 n) ≡ true
     f = is-true (fits binary32 (ofBits binary32 n)) (ofBits-fits binary32 n)
 
-    go : (b : Bool) → finite (ofBits binary32 n) ≡ b → plain (ofBits binary32 n) ≡ (ltb (n % 2 ^ 31) 0x7f80_0000 && not (eqb n 0x8000_0000))
+    go : (b : Bool) → finite (ofBits binary32 n) ≡ b → plain (ofBits binary32 n) ≡ plainPattern n
     go false e = let p = plain-parts (ofBits binary32 n) f in let q = finite-by-pattern n in grind (arith, tells)
     go true e =
         let a : accepted (ofBits binary32 n) ≡ true = accepted-finite (ofBits binary32 n) f e in

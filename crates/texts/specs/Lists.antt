@@ -78,7 +78,13 @@ placeText name [] i = codes "the end of " ++ name
 placeText name (x ∷ xs) zero = codes "line " ++ (decimal (x .line) ++ (codes " of " ++ name))
 placeText name (x ∷ xs) (suc i) = placeText name xs i
 
+abbrev pub sameLine : ℕ → List ℕ
+sameLine n = codes "same: " ++ (decimal n ++ codes " values")
+
+abbrev pub differentLine : List ℕ → List ℕ → List ℕ
+differentLine here there = codes "different: " ++ (here ++ (codes ", " ++ there))
+
 -- the last line of a report on two lists, by their first difference
 abbrev pub verdictLine : {V : Type 0} → List ℕ → List (Entry V) → List ℕ → List (Entry V) → Option ℕ → List ℕ
-verdictLine a xs b ys None = codes "same: " ++ (decimal (length xs) ++ codes " values")
-verdictLine a xs b ys (Some i) = codes "different: " ++ (placeText a xs i ++ (codes ", " ++ placeText b ys i))
+verdictLine a xs b ys None = sameLine (length xs)
+verdictLine a xs b ys (Some i) = differentLine (placeText a xs i) (placeText b ys i)

@@ -4,7 +4,7 @@ ghost use mathlib.Core.List.{_++_};
 ghost use Rattle.std.specs.Of.String.{string-bytes};
 ghost use Rattle.std.specs.Of.Vec.{vec-items};
 ghost use Rattle.std.specs.Vec.{made};
-ghost use Rattle.texts.specs.Lists.{sameValue, FirstDifference, valueLine, refusalLine, EntryLine, Lawful, Found, Tidy, placeText, verdictLine};
+ghost use Rattle.texts.specs.Lists.{sameValue, FirstDifference, valueLine, refusalLine, EntryLine, Lawful, Found, Tidy, placeText, sameLine, differentLine, verdictLine};
 use crate::hex::push_hex;
 use crate::typed::TypedLeaf;
 use cells::causes::Cause;
@@ -50,7 +50,7 @@ pub fn first_difference<V: LeafKind>(a: &[Entry<V>], b: &[Entry<V>]) -> Option<u
 }
 
 // The line of the report for an accepted value that is shown as `text` and has the word `w`.
-pub fn value_line(heap: Global, n: usize, text: &str, w: u64) -> Result<String, AllocError>
+fn value_line(heap: Global, n: usize, text: &str, w: u64) -> Result<String, AllocError>
     ensures { λ r. ⌜ made r (λ s. string-bytes s ≡ valueLine n (now (text .entry)) w) ⌝ }
 {
     let mut line = format!(heap, "{n}: {text} word ")?;
@@ -59,7 +59,7 @@ pub fn value_line(heap: Global, n: usize, text: &str, w: u64) -> Result<String, 
 }
 
 // The line of the report for a refused value.
-pub fn refusal_line(heap: Global, n: usize, cause: Cause) -> Result<String, AllocError>
+fn refusal_line(heap: Global, n: usize, cause: Cause) -> Result<String, AllocError>
     ensures { λ r. ⌜ made r (λ s. string-bytes s ≡ refusalLine n cause) ⌝ }
 {
     format!(heap, "{n}: refused {cause}")
@@ -97,6 +97,18 @@ fn place_text<V: LeafKind>(
     }
 }
 
+fn same_line(heap: Global, count: usize) -> Result<String, AllocError>
+    ensures { λ r. ⌜ made r (λ s. string-bytes s ≡ sameLine count) ⌝ }
+{
+    format!(heap, "same: {count} values")
+}
+
+fn different_line(heap: Global, here: &str, there: &str) -> Result<String, AllocError>
+    ensures { λ r. ⌜ made r (λ s. string-bytes s ≡ differentLine (now (here .entry)) (now (there .entry))) ⌝ }
+{
+    format!(heap, "different: {here}, {there}")
+}
+
 // The last line of a report on two lists, by where they first differ.
 pub fn verdict_line<V: LeafKind>(
     heap: Global,
@@ -108,13 +120,14 @@ pub fn verdict_line<V: LeafKind>(
 ) -> Result<String, AllocError>
     ensures { λ r. ⌜ made r (λ s. string-bytes s ≡ verdictLine (now («a_name» .entry)) (now (a .entry)) (now («b_name» .entry)) (now (b .entry)) apart) ⌝ }
 {
-    let Some(i) = apart else {
-        let count = a.len();
-        return format!(heap, "same: {count} values");
-    };
-    let here = place_text(heap, a_name, a, i)?;
-    let there = place_text(heap, b_name, b, i)?;
-    format!(heap, "different: {here}, {there}")
+    match apart {
+        None => same_line(heap, a.len()),
+        Some(i) => {
+            let here = place_text(heap, a_name, a, i)?;
+            let there = place_text(heap, b_name, b, i)?;
+            different_line(heap, here.as_str(), there.as_str())
+        }
+    }
 }
 
 #[derive(Debug, Drop)]
@@ -138,7 +151,7 @@ pub impl<T: Drop> From<Refused<T>> for ListFault as ListFaultFromRefused {
 }
 
 // The tidied value that a line holds, or its refusal; none where the words of the line are no numbers.
-pub fn read_value<V: TypedLeaf>(
+fn read_value<V: TypedLeaf>(
     heap: Global,
     line: &str,
 ) -> Result<Option<Result<V, Cause>>, AllocError>

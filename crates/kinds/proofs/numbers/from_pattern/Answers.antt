@@ -1,28 +1,25 @@
--- The two tests on the pattern say that the number that has it is plain.
-use mathlib.Core.Path.{_≡_, refl, sym, ap, _∙_}
-use mathlib.Core.Bool.{true, false, not}
+-- The test on the pattern says that the number that has it is plain.
+use mathlib.Core.Path.{_≡_, sym, _∙_, subst}
+use mathlib.Core.Bool.{true, not}
 use native.Mathlib.Omega.{arith}
 use lib.Dec.{T}
-use lib.Ieee.{binary32, nanBits, isNan, ofBits}
+use lib.Ieee.{binary32, ofBits}
 use lib.Ieee.Bits.{nanBits-is}
-use mathlib.Core.Path.{subst}
 use Rattle.std.proofs.shelf.Ways.{tells}
 use Rattle.kinds.specs.Numbers.{plain, takenNumber}
 use Rattle.kinds.proofs.NumberFacts.{plain-by-pattern, plain-number}
 use Rattle.kinds.proofs.numbers.from_pattern.Needs as need
 
-is-plain : (c : need.Then-bits-ne2147483648) → plain (ofBits binary32 (c .args .bits)) ≡ true
-is-plain c = let p = plain-by-pattern (c .args .bits) (c .fits .bits .fits) in let h = c .if-bits-ne2147483648 .taken in grind (arith, tells)
+passed : (c : need.Then-is-plain) → plain (ofBits binary32 (c .args .bits)) ≡ true
+passed c = plain-by-pattern (c .args .bits) (c .fits .bits .fits) ∙ sym (c .if-is-plain .ensures tt)
 
 pub float-from-bits-result : need.float-from-bits-result
-float-from-bits-result c =
-    subst (λ b. T (not b)) (sym (nanBits-is binary32 (c .args .bits))) (plain-number (ofBits binary32 (c .args .bits)) (is-plain c))
+float-from-bits-result c = subst (λ b. T (not b)) (sym (nanBits-is binary32 (c .args .bits))) (plain-number (ofBits binary32 (c .args .bits)) (passed c))
 
-pub returns-then-bits-ne2147483648 : need.returns-then-bits-ne2147483648
+pub returns-then-is-plain : need.returns-then-is-plain
 unfolding takenNumber
-returns-then-bits-ne2147483648 c = let p = is-plain c in grind (arith, tells)
+returns-then-is-plain c = let p = passed c in grind (arith, tells)
 
-pub returns-else-bits-lt2139095040 : need.returns-else-bits-lt2139095040
+pub returns-else-is-plain : need.returns-else-is-plain
 unfolding takenNumber
-returns-else-bits-lt2139095040 c =
-    let p = plain-by-pattern (c .args .bits) (c .fits .bits .fits) in let w = c .else-bits-lt2139095040 .either in grind (arith, tells)
+returns-else-is-plain c = let p = plain-by-pattern (c .args .bits) (c .fits .bits .fits) ∙ sym (c .if-is-plain .ensures tt) in grind (arith, tells)
