@@ -1,0 +1,1 @@
+// What a collection does, as definitions. No call can be made yet.
