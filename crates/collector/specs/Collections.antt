@@ -68,7 +68,7 @@ tourOf b =
       new = b .fresh;
       steps = stepsOf (m .mode);
       copied = copiedOf (m .mode);
-      marks = marksOf (m .mode)
+      marks = marksOf (m .mode);
     }
 
 -- the record and banks of a collection that stands there; the free list stays until the end
@@ -76,7 +76,7 @@ abbrev pub standing : {V : Type 0} → List ℕ → Tour V → Banks V
 standing free t = record {
   model = record { size = t .size; mark = t .mark; hands = t .hands; free = free; mode = Collecting (t .steps) (t .copied) (t .marks) };
   cells = t .old;
-  fresh = t .new
+  fresh = t .new;
 }
 
 -- the end of a collection: the new bank is the working one, the mark is what was copied, nothing is listed
@@ -84,7 +84,7 @@ abbrev pub settled : {V : Type 0} → Tour V → Banks V
 settled t = record {
   model = record { size = t .size; mark = t .copied; hands = t .hands; free = []; mode = Settled };
   cells = t .new;
-  fresh = t .old
+  fresh = t .old;
 }
 
 -- all the steps that are left: there are at most sixteen and two for each new cell
@@ -114,7 +114,7 @@ abbrev pub actEffect : {V : Type 0} → Banks V → Act V → Banks V
 actEffect b (begin spare) = record {
   model = record { size = b .model .size; mark = b .model .mark; hands = b .model .hands; free = b .model .free; mode = Collecting 0 0 0 };
   cells = b .cells;
-  fresh = spare
+  fresh = spare;
 }
 actEffect b (slice budget) = standing (b .model .free) (march budget (tourOf b) .tour)
 actEffect b finish = whole (marchAll (tourOf b)) settled (standing (b .model .free))

@@ -111,7 +111,7 @@ copiedOver t r c =
       new = cellsWith p f (set (t .new) (t .copied) c);
       steps = suc p;
       copied = suc (t .copied);
-      marks = cond (isUnique (r .tag)) (t .marks) (suc (t .marks))
+      marks = cond (isUnique (r .tag)) (t .marks) (suc (t .marks));
     }
 
 -- a STICKY forward is taken over
@@ -126,7 +126,7 @@ takenOver t f =
       new = cellsWith p (To f) (t .new);
       steps = suc p;
       copied = t .copied;
-      marks = t .marks
+      marks = t .marks;
     }
 
 -- A UNIQUE forward becomes STICKY, at the old cell, at this place and at the source.
@@ -143,7 +143,7 @@ secondMet t r f s =
       new = cellsWith q g (cellsWith p g (t .new));
       steps = suc p;
       copied = t .copied;
-      marks = suc (t .marks)
+      marks = suc (t .marks);
     }
 
 abbrev pub forwarded : {V : Type 0} → Tour V → Reference → Tag → Reference → Source → Tour V

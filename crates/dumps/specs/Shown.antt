@@ -1,5 +1,5 @@
 -- Cells as lines of text. Assumes nothing.
-use Prim.Native.Nat.{ℕ, _+_}
+use Prim.Native.Nat.{ℕ, _+_, _-_, _^_, min}
 use mathlib.Core.Path.{_≡_}
 use mathlib.Core.Bool.{Bool, true, false}
 use mathlib.Core.List.{List, _++_}
@@ -17,6 +17,7 @@ use Rattle.cells.specs.declared.Source.the-variants.{Nowhere, Hand, Cell as Sid
 use Rattle.cells.specs.declared.Cell.{Cell}
 use Rattle.cells.specs.declared.Cell.the-variants.{Blank, Pair, Leaf, Moved}
 use Rattle.texts.specs.Hex.{hex}
+use Rattle.dumps.specs.declared.Tally.{Tally}
 
 abbrev pub tagText : Tag → List ℕ
 tagText Unique = codes "unique"
@@ -54,3 +55,25 @@ CellText lawful word shows (Pair l r) bs = bs ≡ pairText l r
 CellText lawful word shows (Leaf v) bs =
     (lawful v ≡ true → (value : List ℕ) × shows v value × (bs ≡ leafText value (word v))) × (lawful v ≡ false → bs ≡ codes "blank")
 CellText lawful word shows (Moved f s) bs = bs ≡ movedText f s
+
+-- the line of the cell at an address
+abbrev pub lineOf : ℕ → List ℕ → List ℕ
+lineOf a text = decimal a ++ (codes ": " ++ text)
+
+-- ---- how many cells there are of each kind
+
+abbrev pub oneMore : ℕ → ℕ
+oneMore n = min (n + 1) (2 ^ 64 - 1)
+
+-- a cell counted with those of its kind; a count stays at the largest that there is
+abbrev pub noted : {V : Type 0} → Tally → Cell V → Tally
+noted t Blank = record { blank = oneMore (t .blank); pair = t .pair; leaf = t .leaf; moved = t .moved }
+noted t (Pair l r) = record { blank = t .blank; pair = oneMore (t .pair); leaf = t .leaf; moved = t .moved }
+noted t (Leaf v) = record { blank = t .blank; pair = t .pair; leaf = oneMore (t .leaf); moved = t .moved }
+noted t (Moved f s) = record { blank = t .blank; pair = t .pair; leaf = t .leaf; moved = oneMore (t .moved) }
+
+-- the counts, and the bytes that belong to no cell
+abbrev pub tallyText : Tally → ℕ → List ℕ
+tallyText t left =
+    codes "blank " ++ (decimal (t .blank) ++ (codes " pair " ++ (decimal (t .pair) ++ (codes " leaf " ++ (decimal (t .leaf)
+    ++ (codes " moved " ++ (decimal (t .moved) ++ (codes " left over " ++ decimal left))))))))

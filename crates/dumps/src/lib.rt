@@ -3,7 +3,7 @@ ghost use mathlib.Core.Path.{_≡_};
 ghost use Rattle.std.specs.Of.String.{string-bytes};
 ghost use Rattle.std.specs.Vec.{made};
 ghost use Rattle.std.specs.declared.option.Option.the-variants.{Some};
-ghost use Rattle.dumps.specs.Shown.{tagText, referenceText, fieldText, sideText, sourceText, pairText, leafText, movedText, CellText};
+ghost use Rattle.dumps.specs.Shown.{tagText, referenceText, fieldText, sideText, sourceText, pairText, leafText, movedText, CellText, lineOf, noted, tallyText};
 use cells::Cell;
 use cells::Field;
 use cells::Reference;
@@ -103,5 +103,60 @@ pub fn cell_text<V: TypedLeaf>(heap: Global, c: Cell<V>) -> Result<String, Alloc
             None => String::from_str(heap, "blank"),
         },
         Cell::Moved { forward, source } => moved_text(heap, forward, source),
+    }
+}
+
+// The line of the cell at an address that is shown as `text`.
+pub fn cell_line(heap: Global, at: u16, text: &str) -> Result<String, AllocError>
+    ensures { λ s. ⌜ made s (λ t. string-bytes t ≡ lineOf at (now (text .entry))) ⌝ }
+{
+    format!(heap, "{at}: {text}")
+}
+
+// How many cells there are of each kind.
+#[derive(Clone, Copy, Debug)]
+pub struct Tally {
+    pub blank: u64,
+    pub pair: u64,
+    pub leaf: u64,
+    pub moved: u64,
+}
+
+impl Tally {
+    pub const NONE: Tally = Tally {
+        blank: 0,
+        pair: 0,
+        leaf: 0,
+        moved: 0,
+    };
+
+    // The counts with one cell more.
+    pub fn with<V: TypedLeaf>(self, c: Cell<V>) -> Tally
+        ensures { λ r. ⌜ r ≡ noted self c ⌝ }
+    {
+        let mut t = self;
+        match c {
+            Cell::Blank => t.blank = t.blank.saturating_add(1),
+            Cell::Pair { .. } => t.pair = t.pair.saturating_add(1),
+            Cell::Leaf(_) => t.leaf = t.leaf.saturating_add(1),
+            Cell::Moved { .. } => t.moved = t.moved.saturating_add(1),
+        }
+        t
+    }
+
+    // The counts in a line, with the bytes that belong to no cell.
+    pub fn line(self, heap: Global, left_over: usize) -> Result<String, AllocError>
+        ensures { λ s. ⌜ made s (λ t. string-bytes t ≡ tallyText self «left_over») ⌝ }
+    {
+        let Tally {
+            blank,
+            pair,
+            leaf,
+            moved,
+        } = self;
+        format!(
+            heap,
+            "blank {blank} pair {pair} leaf {leaf} moved {moved} left over {left_over}"
+        )
     }
 }

@@ -33,7 +33,7 @@ decides-places held test P d n =
 decides-leb : (a b : ℕ) → Decides (leb a b) (a ≤ b)
 decides-leb a b = (λ e. grind (arith, tells), λ l. grind (arith, tells))
 
-decides-tagged : (t : Tag) (b : Bool) {S : Type 0} → Decides b S → Decides (tagged t b) ((t ≡ Sticky) ↔ S)
+pub decides-tagged : (t : Tag) (b : Bool) {S : Type 0} → Decides b S → Decides (tagged t b) ((t ≡ Sticky) ↔ S)
 decides-tagged Unique b {S} d = (λ e. (λ u. absurd (grind arith), λ x. absurd (let y = d .1 x in grind arith)), λ h. unshared h b refl)
   where
     unshared : ((Unique ≡ Sticky) ↔ S) → (c : Bool) → b ≡ c → not b ≡ true

@@ -3,6 +3,7 @@
 ghost use mathlib.Core.Path.{_≡_};
 ghost use mathlib.Core.Bool.{true, false};
 ghost use lib.ListN.{getD};
+ghost use Rattle.std.specs.Options.{isSome};
 ghost use Rattle.std.specs.declared.option.Option.the-variants.{Some, None};
 ghost use Rattle.cells.specs.declared.Cell.the-variants.{Blank};
 ghost use Rattle.cells.specs.Banks.{leafLawful};
@@ -36,21 +37,25 @@ fn pack_reference(r: Reference) -> u32
     mark * 0x1_0000 + u32::from(r.address)
 }
 
-fn unpack_reference(w: u32) -> Option<Reference>
-    ensures unpacked { λ o. ⌜ o ≡ unpackReference w ⌝ }
-    ensures only { λ o. ⌜ elim o [ Some r ↦ packReference r ≡ w | None ↦ Unit {0} ] ⌝ }
+fn is_reference(w: u32) -> bool
+    ensures { λ r. ⌜ r ≡ isSome (unpackReference w) ⌝ }
 {
-    let address = (w % 0x1_0000) as u16;
-    match w / 0x1_0000 {
-        0x8000 => Some(Reference {
-            tag: Tag::Unique,
-            address,
-        }),
-        0xC000 => Some(Reference {
-            tag: Tag::Sticky,
-            address,
-        }),
-        _ => None,
+    let mark = w / 0x1_0000;
+    mark == 0x8000 || mark == 0xC000
+}
+
+fn reference_of(w: u32) -> Reference
+    requires { ⌜ isSome (unpackReference w) ≡ true ⌝ }
+    ensures { λ r. ⌜ unpackReference w ≡ Some r ⌝ }
+{
+    let tag = if w / 0x1_0000 == 0x8000 {
+        Tag::Unique
+    } else {
+        Tag::Sticky
+    };
+    Reference {
+        tag,
+        address: (w % 0x1_0000) as u16,
     }
 }
 
@@ -66,19 +71,38 @@ pub fn pack_field(f: Field) -> u32
     }
 }
 
+fn is_field(w: u32) -> bool
+    ensures { λ r. ⌜ r ≡ isSome (unpackField w) ⌝ }
+{
+    w == 0 || is_reference(w)
+}
+
+// Written out, and not by `reference_of`: a reference that is copied into a field slows every read of a bank.
+fn field_of(w: u32) -> Field
+    requires { ⌜ isSome (unpackField w) ≡ true ⌝ }
+    ensures { λ r. ⌜ unpackField w ≡ Some r ⌝ }
+{
+    let address = (w % 0x1_0000) as u16;
+    match w / 0x1_0000 {
+        0 => Field::Nil,
+        0x8000 => Field::To(Reference {
+            tag: Tag::Unique,
+            address,
+        }),
+        _ => Field::To(Reference {
+            tag: Tag::Sticky,
+            address,
+        }),
+    }
+}
+
 // The field that has a word, or none.
 pub fn unpack_field(w: u32) -> Option<Field>
     ensures unpacked { λ o. ⌜ o ≡ unpackField w ⌝ }
     ensures only { λ o. ⌜ elim o [ Some f ↦ packField f ≡ w | None ↦ Unit {0} ] ⌝ }
     ensures fits { λ o. ⌜ elim o [ Some f ↦ fieldFits f ≡ true | None ↦ Unit {0} ] ⌝ }
 {
-    if w == 0 {
-        return Some(Field::Nil);
-    }
-    match unpack_reference(w) {
-        Some(r) => Some(Field::To(r)),
-        None => None,
-    }
+    if is_field(w) { Some(field_of(w)) } else { None }
 }
 
 fn pack_source(s: Source) -> u32
@@ -161,17 +185,20 @@ fn cell_of<V: LeafKind>(kind: u8, body: u64) -> Cell<V>
     let upper = (body / 0x1_0000_0000) as u32;
     let lower = (body % 0x1_0000_0000) as u32;
     match kind {
-        PAIR => match (unpack_field(upper), unpack_field(lower)) {
-            (Some(left), Some(right)) => Cell::Pair { left, right },
-            _ => Cell::Blank,
+        PAIR if is_field(upper) && is_field(lower) => Cell::Pair {
+            left: field_of(upper),
+            right: field_of(lower),
         },
         LEAF => match V::from_word(body) {
             Some(v) => Cell::Leaf(v),
             None => Cell::Blank,
         },
-        MOVED => match (unpack_reference(upper), unpack_source(lower)) {
-            (Some(forward), Some(source)) => Cell::Moved { forward, source },
-            _ => Cell::Blank,
+        MOVED if is_reference(upper) => match unpack_source(lower) {
+            Some(source) => Cell::Moved {
+                forward: reference_of(upper),
+                source,
+            },
+            None => Cell::Blank,
         },
         _ => Cell::Blank,
     }

@@ -25,6 +25,7 @@ use Rattle.store.specs.Calls as call
 use Rattle.collector.specs.Collections.{Banks, Reply, kept-marks, tourOf, marchAll}
 use Rattle.collector.specs.Steps.{Tour, Stand}
 use Rattle.runs.specs.Plain.{plainSight}
+use Rattle.runs.specs.Sound.{Listed}
 use Rattle.runs.specs.Worlds.{Event, calls, finishes, World, Said, answered, replied, newWorld, answer, cause, after, run}
 
 -- a size that a store may have
@@ -42,10 +43,6 @@ held b = holds (b .model .hands) (kept b)
 -- the hands and the cells below the mark as a graph
 abbrev pub graphKept : {V : Type 0} → Banks V → Graph V
 graphKept b = graphOf (b .model .hands) (kept b)
-
--- whether an address is on a list
-abbrev pub Listed : List ℕ → ℕ → Type 0
-Listed free a = (i : ℕ) × (i < length free) × (getD free i 0 ≡ a)
 
 module _ {V : Type 0} (tidied : V → Option V) (alike : V → V → Bool) where
   -- ---- in every run, at every call
@@ -120,5 +117,5 @@ module _ {V : Type 0} (tidied : V → Option V) (alike : V → V → Bool) where
     pub compared : (bank bank′ : List (Cell V)) (es es′ : List (Event V)) (n k n′ k′ : ℕ) → SizeAllowed (length bank) → SizeAllowed (length bank′)
         → JustFinished (ranOn bank es) n k → JustFinished (ranOn bank′ es′) n′ k′
         → ((after tidied (ranOn bank es) (finishes n k) .banks .model .hands ≡ after tidied (ranOn bank′ es′) (finishes n′ k′) .banks .model .hands)
-          × (kept (after tidied (ranOn bank es) (finishes n k) .banks) ≡ kept (after tidied (ranOn bank′ es′) (finishes n′ k′) .banks)))
+        × (kept (after tidied (ranOn bank es) (finishes n k) .banks) ≡ kept (after tidied (ranOn bank′ es′) (finishes n′ k′) .banks)))
         ↔ Alike alike (ranOn bank es .plain) (ranOn bank′ es′ .plain)

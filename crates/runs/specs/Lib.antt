@@ -1,3 +1,5 @@
 pub mod Plain
+pub mod Sound
+pub mod Kept
 pub mod Worlds
 pub mod Law

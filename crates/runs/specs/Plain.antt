@@ -61,12 +61,12 @@ abbrev pub isNilLink : Link → Bool
 isNilLink nil = true
 isNilLink (to n) = false
 
+abbrev pub nodeSight : {V : Type 0} → Node V → Sight V
+nodeSight blank = Nothing
+nodeSight (pair l r) = APair (isNilLink l) (isNilLink r)
+nodeSight (leaf v) = ALeaf v
+
 -- what Look shows of a link
 abbrev pub plainSight : {V : Type 0} → Graph V → Link → Sight V
 plainSight G nil = Nothing
-plainSight G (to n) = shown (node G n)
-  where
-    shown : {V : Type 0} → Node V → Sight V
-    shown blank = Nothing
-    shown (pair l r) = APair (isNilLink l) (isNilLink r)
-    shown (leaf v) = ALeaf v
+plainSight G (to n) = nodeSight (node G n)

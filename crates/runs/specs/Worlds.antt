@@ -38,7 +38,7 @@ newWorld cells = record {
   banks = record { model = newModel (length cells); cells = cells; fresh = [] };
   plain = emptyGraph;
   begunHands = [];
-  begunCells = []
+  begunCells = [];
 }
 
 -- ---- answers
@@ -108,7 +108,7 @@ module _ {V : Type 0} (tidied : V → Option V) where
     banks = next w e;
     plain = ifAccepted (answer w e) (plainAfter (w .plain) e) (w .plain);
     begunHands = ifAccepted (answer w e) (begun e (w .banks .model .hands) (w .begunHands)) (w .begunHands);
-    begunCells = ifAccepted (answer w e) (begun e (take (w .banks .model .mark) (w .banks .cells)) (w .begunCells)) (w .begunCells)
+    begunCells = ifAccepted (answer w e) (begun e (take (w .banks .model .mark) (w .banks .cells)) (w .begunCells)) (w .begunCells);
   }
 
   -- a run on a new store, the calls in their order

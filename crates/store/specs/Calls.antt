@@ -74,16 +74,16 @@ abbrev pub handPasses : (Field → Bool) → Model → Option ℕ → Bool
 handPasses test m None = false
 handPasses test m (Some h) = test (handOf m h)
 
+abbrev pub isLeaf : {V : Type 0} → Cell V → Bool
+isLeaf Blank = false
+isLeaf (Pair l r) = false
+isLeaf (Leaf v) = true
+isLeaf (Moved f o) = false
+
 -- the cell that a reference leads to is a leaf
 abbrev pub leadsToLeaf : {V : Type 0} → List (Cell V) → Field → Bool
 leadsToLeaf cells Nil = false
 leadsToLeaf cells (To r) = isLeaf (getD cells (r .address) Blank)
-  where
-    isLeaf : {V : Type 0} → Cell V → Bool
-    isLeaf Blank = false
-    isLeaf (Pair l r) = false
-    isLeaf (Leaf v) = true
-    isLeaf (Moved f o) = false
 
 -- a reference is followed at or past the mark, to a blank cell, or to a moved one
 abbrev pub astray : {V : Type 0} → ℕ → List (Cell V) → Field → Bool
@@ -130,15 +130,15 @@ first (row ∷ rows) = cond (row .0) (Some (row .1)) (first rows)
 unfoldable pub causeOf : {V : Type 0} → (V → Option V) → Model → ℕ → List (Cell V) → Call V → Option Cause
 causeOf tidied m n cells c =
     first (
-      (not (eqb n (m .size)), OtherSize)
-      ∷ (noSuchHand c, NoSuchHand)
-      ∷ (isCollecting (m .mode), Collecting)
-      ∷ (valueRefused tidied c, ValueRefused)
-      ∷ (handPasses isNil m (sided c), NilHand)
-      ∷ (handPasses (leadsToLeaf cells) m (sided c), LeafCell)
-      ∷ (spoiled m cells c, Spoiled)
-      ∷ (noRoom m c, NoRoom)
-      ∷ []
+    (not (eqb n (m .size)), OtherSize)
+    ∷ (noSuchHand c, NoSuchHand)
+    ∷ (isCollecting (m .mode), Collecting)
+    ∷ (valueRefused tidied c, ValueRefused)
+    ∷ (handPasses isNil m (sided c), NilHand)
+    ∷ (handPasses (leadsToLeaf cells) m (sided c), LeafCell)
+    ∷ (spoiled m cells c, Spoiled)
+    ∷ (noRoom m c, NoRoom)
+    ∷ []
     )
 
 -- a bank over which no store can be made
@@ -163,7 +163,7 @@ placed s h c =
     let t = taking (s .cells) (m .mark) (letGo (m .mark) (handOf m h) (m .free)) in
     record {
       model = record { size = m .size; mark = t .mark; hands = set (m .hands) h (unique (t .address)); free = t .free; mode = Working };
-      cells = set (s .cells) (t .address) c
+      cells = set (s .cells) (t .address) c;
     }
 
 -- the cell that hand g refers to, with one side set
@@ -181,7 +181,7 @@ effect tidied s (copy h g) =
     let f = madeSticky (handOf m g) in
     record {
       model = cond (eqb h g) (working m (m .hands) (m .free)) (working m (set (set (m .hands) g f) h f) (letGo (m .mark) (handOf m h) (m .free)));
-      cells = s .cells
+      cells = s .cells;
     }
 -- the field becomes STICKY in the cell, then h is let go, then h is set to the field
 effect tidied s (load h g side) =
@@ -204,16 +204,17 @@ effect tidied s (look h) = s
 
 -- ---- answers
 
--- what a hand shows: nothing, a pair with which of its sides are nil, or a leaf with its value
+-- what a cell shows: a pair with which of its sides are nil, or a leaf with its value
+abbrev pub cellSight : {V : Type 0} → Cell V → Sight V
+cellSight Blank = Nothing
+cellSight (Pair l r) = APair (isNil l) (isNil r)
+cellSight (Leaf v) = ALeaf v
+cellSight (Moved f o) = Nothing
+
+-- what a hand shows: nothing, or its cell
 abbrev pub sightOf : {V : Type 0} → List (Cell V) → Field → Sight V
 sightOf cells Nil = Nothing
-sightOf cells (To r) = seen (getD cells (r .address) Blank)
-  where
-    seen : {V : Type 0} → Cell V → Sight V
-    seen Blank = Nothing
-    seen (Pair l r) = APair (isNil l) (isNil r)
-    seen (Leaf v) = ALeaf v
-    seen (Moved f o) = Nothing
+sightOf cells (To r) = cellSight (getD cells (r .address) Blank)
 
 -- what an accepted call answers: that it is done, or what it sees
 pub data Answer (V : Type 0) : Type 0 where

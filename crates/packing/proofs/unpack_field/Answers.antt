@@ -1,16 +1,13 @@
--- Both definitions open, each clause is a computation on the word.
-use borrow.Author.Needs.{needs}
-use Rattle.packing.specs.Fields.{packField, unpackField}
+-- What is read of a word is its field, by the laws of fields.
+use mathlib.Core.Path.{sym}
+use Rattle.packing.proofs.Fields.{field-only, field-fits}
 use Rattle.packing.proofs.unpack_field.Needs as need
 
-pub returns-then-w-eq0 : need.returns-then-w-eq0
-unfolding packField unpackField
-returns-then-w-eq0 c = search needs
-
-pub returns-in-Some : need.returns-in-Some
-unfolding packField unpackField
-returns-in-Some c = search needs
-
-pub returns-in-None : need.returns-in-None
-unfolding packField unpackField
-returns-in-None c = search needs
+pub returns-then-is-field : need.returns-then-is-field
+returns-then-is-field c =
+    let f = c .field-of .result in
+    record {
+      unpacked = sym (c .field-of .ensures);
+      only = field-only (c .args .w) f (c .field-of .ensures);
+      fits = field-fits (c .args .w) f (c .field-of .ensures);
+    }

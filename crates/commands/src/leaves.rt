@@ -41,21 +41,19 @@ fn print_list<V: TypedLeaf>(rt: &LibcRuntime, list: &[Entry<V>]) -> Result<(), E
     Ok(())
 }
 
-pub fn report<V: TypedLeaf>(rt: &LibcRuntime, names: &[String]) -> Result<(), Ended> {
-    match names {
-        [one] => {
-            let list = read_file::<V>(rt, one.as_str())?;
-            print_list(rt, list.as_slice())
-        }
-        [one, two] => {
-            let a = read_file::<V>(rt, one.as_str())?;
-            let b = read_file::<V>(rt, two.as_str())?;
-            print_list(rt, a.as_slice())?;
-            print_list(rt, b.as_slice())?;
-            print_verdict(rt, one.as_str(), a.as_slice(), two.as_str(), b.as_slice())
-        }
-        _ => Err(crate::usage(rt)),
-    }
+// Prints what each line of a list holds.
+pub fn list<V: TypedLeaf>(rt: &LibcRuntime, name: &str) -> Result<(), Ended> {
+    let list = read_file::<V>(rt, name)?;
+    print_list(rt, list.as_slice())
+}
+
+// Prints two lists, and whether they hold the same values.
+pub fn compare<V: TypedLeaf>(rt: &LibcRuntime, a_name: &str, b_name: &str) -> Result<(), Ended> {
+    let a = read_file::<V>(rt, a_name)?;
+    let b = read_file::<V>(rt, b_name)?;
+    print_list(rt, a.as_slice())?;
+    print_list(rt, b.as_slice())?;
+    print_verdict(rt, a_name, a.as_slice(), b_name, b.as_slice())
 }
 
 fn print_verdict<V: TypedLeaf>(

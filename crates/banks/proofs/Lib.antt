@@ -1,0 +1,2 @@
+pub mod LentCells
+pub mod LentBytes

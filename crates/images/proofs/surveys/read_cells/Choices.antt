@@ -1,0 +1,7 @@
+use Prim.Native.Nat.{_+_, _*_}
+use Rattle.std.specs.declared.option.Option.the-variants.{None}
+use Rattle.images.specs.Surveys.{ReadTo}
+use Rattle.images.proofs.surveys.read_cells.Given as given
+
+abbrev pub Inv-loop-j : given.InvT-loop-j
+Inv-loop-j g l = ReadTo (g .V·LeafKind .taken) (l .rest) (l .count) (16 + 2 * l .j) (l .survey) None

@@ -1,0 +1,6 @@
+pub mod Lists
+pub mod Held
+pub mod Tagging
+pub mod Moves
+pub mod Placing
+pub mod Called
