@@ -56,7 +56,11 @@ fn packs_again<V: LeafKind>(bytes: [u8; 9]) -> bool {
     }
 }
 
-fn holds_at<V: TypedLeaf>(heap: Global, bytes: [u8; 9], expected: &str) -> Result<bool, AllocError> {
+fn holds_at<V: TypedLeaf>(
+    heap: Global,
+    bytes: [u8; 9],
+    expected: &str,
+) -> Result<bool, AllocError> {
     let got = answer::<V>(heap, bytes)?;
     Ok(got.as_str() == expected && packs_again::<V>(bytes))
 }

@@ -14,8 +14,8 @@ fn draw_arrow(rt: &LibcRuntime, from: &str, field: Field) {
     if let Field::To(r) = field {
         let a = r.address;
         let _ = match r.tag {
-            Tag::Unique => println!(rt, "  {from} -> c{a} [label=\"unique\"];"),
-            Tag::Sticky => println!(rt, "  {from} -> c{a} [label=\"sticky\", style=dashed];"),
+            Tag::Unique => println!(rt, "  {from} -> cell{a} [label=\"unique\"];"),
+            Tag::Sticky => println!(rt, "  {from} -> cell{a} [label=\"sticky\", style=dashed];"),
         };
     }
 }
@@ -66,16 +66,16 @@ fn draw_cell<V: TypedLeaf>(
         Cell::Pair { left, right } => {
             let _ = println!(
                 rt,
-                "  c{at} [shape=record, label=\"{at}|<l>left|<r>right\"{fill}];"
+                "  cell{at} [shape=record, label=\"{at}|<l>left|<r>right\"{fill}];"
             );
-            let l = format!(rt.alloc(), "c{at}:l")?;
-            let r = format!(rt.alloc(), "c{at}:r")?;
+            let l = format!(rt.alloc(), "cell{at}:l")?;
+            let r = format!(rt.alloc(), "cell{at}:r")?;
             draw_arrow(rt, l.as_str(), left);
             draw_arrow(rt, r.as_str(), right);
         }
         Cell::Leaf(v) => {
             let value = v.show(rt.alloc())?;
-            let _ = println!(rt, "  c{at} [shape=box, label=\"{at}: {value}\"{fill}];");
+            let _ = println!(rt, "  cell{at} [shape=box, label=\"{at}: {value}\"{fill}];");
         }
         Cell::Blank | Cell::Moved { .. } => {}
     }
