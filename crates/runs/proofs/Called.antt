@@ -72,7 +72,7 @@ module _ {V : Type 0} {lawful : V → Bool} {size mark : ℕ} {hands : List Fiel
 -- ---- what an accepted call is known by
 
 -- a row of the table that does not apply, and the rows below it
-row-none : (b : Bool) (c : Cause) (rest : Option Cause) → cond b (Some c) rest ≡ None → (b ≡ false) × (rest ≡ None)
+pub row-none : (b : Bool) (c : Cause) (rest : Option Cause) → cond b (Some c) rest ≡ None → (b ≡ false) × (rest ≡ None)
 row-none b c rest e = (grind (arith, tells), grind (arith, tells))
 
 pub record Admitted {V : Type 0} (tidied : V → Option V) (m : Model) (n : ℕ) (cells : List (Cell V)) (c : Call V) : Type 0 where
@@ -422,7 +422,8 @@ module _ {V : Type 0} {lawful : V → Bool} {tidied : V → Option V} {word : V 
 
 -- ---- a new store
 
-module _ {V : Type 0} (lawful : V → Bool) (cells : List (Cell V)) where
+-- a store with nothing in it is sound with any graph whose hands are nil
+module _ {V : Type 0} (lawful : V → Bool) (cells : List (Cell V)) (nodes : List (Node V)) where
   all-same : {X : Type 0} (x : X) (i : ℕ) → getD (replicate 16 x) i x ≡ x
   all-same x i = elim (cases-lt i 16) [ inl l ↦ getD-replicate 16 i x x l | inr l ↦ getD-past (replicate 16 x) i x l ]
 
@@ -436,7 +437,7 @@ module _ {V : Type 0} (lawful : V → Bool) (cells : List (Cell V)) where
       blank-side Left = refl
       blank-side Right = refl
 
-  pub sound-new : SoundAt lawful (newModel (length cells)) cells emptyGraph
+  pub sound-new : SoundAt lawful (newModel (length cells)) cells (record { hands = replicate 16 nil; nodes = nodes })
   sound-new = record {
     size-cells = refl;
     mark-size = omega arith;
@@ -462,7 +463,7 @@ module _ {V : Type 0} (lawful : V → Bool) (cells : List (Cell V)) where
 pub calls-keep-sound : {V : Type 0} {lawful : V → Bool} {tidied : V → Option V} {word : V → ℕ} {taken : ℕ → Option V} {alike : V → V → Bool}
     → Laws lawful tidied word taken alike → Calls-keep-sound lawful tidied
 calls-keep-sound {V} {lawful} {tidied} laws = record {
-  new = sound-new lawful;
+  new = λ cells. sound-new lawful cells [];
   accepted = λ m cells G n c S e. sound-effect laws m cells G S n c (admitted tidied m n cells c e);
   never-spoiled = λ m cells G n c S e. cause-not-spoiled laws m cells G S n c e;
   looks = λ m cells G h S l. look-plain laws m cells G S h l;

@@ -4,3 +4,5 @@ pub mod Tagging
 pub mod Moves
 pub mod Placing
 pub mod Called
+pub mod Tallied
+pub mod Worldly
