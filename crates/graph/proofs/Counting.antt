@@ -36,7 +36,7 @@ found-is f (suc k) once a h =
     (cases-eq (f k) (f a))
 
 -- numbers below k that are sent one to one to numbers below m are at most m
-no-room : (k m : ℕ) (f : ℕ → ℕ) → ((i : ℕ) → i < k → f i < m) → ((i j : ℕ) → i < k → j < k → f i ≡ f j → i ≡ j) → k ≤ m
+pub no-room : (k m : ℕ) (f : ℕ → ℕ) → ((i : ℕ) → i < k → f i < m) → ((i j : ℕ) → i < k → j < k → f i ≡ f j → i ≡ j) → k ≤ m
 no-room zero m f inside once = omega arith
 no-room (suc k) zero f inside once = let b = inside k (omega arith) in omega arith
 no-room (suc k) (suc m) f inside once = let n = no-room k m g inside′ once′ in omega arith

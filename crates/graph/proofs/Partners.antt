@@ -83,7 +83,7 @@ module _ {V : Type 0} {alike : V → V → Bool} {G G′ : Graph V} (A : Alike a
   )
 
 -- a graph is alike to one that a map sends it to, if the map is one to one on numbers below a bound of what is reachable
-pub alike-by-map : {V : Type 0} (alike : V → V → Bool) (G G′ : Graph V) (f : ℕ → ℕ) (r : ℕ) → ((n : ℕ) → Reachable G n → n < r) → ((a b : ℕ) → a < r → b < r → f a ≡ f b → a ≡ b) → ((i : ℕ) → sent f (hand G i) ≡ hand G′ i) → ((n : ℕ) → Reachable G n → Matches alike f (node G n) (node G′ (f n))) → Alike alike G G′
+unfoldable pub alike-by-map : {V : Type 0} (alike : V → V → Bool) (G G′ : Graph V) (f : ℕ → ℕ) (r : ℕ) → ((n : ℕ) → Reachable G n → n < r) → ((a b : ℕ) → a < r → b < r → f a ≡ f b → a ≡ b) → ((i : ℕ) → sent f (hand G i) ≡ hand G′ i) → ((n : ℕ) → Reachable G n → Matches alike f (node G n) (node G′ (f n))) → Alike alike G G′
 alike-by-map alike G G′ f r inside once hs ns =
     record {
       forth = f;

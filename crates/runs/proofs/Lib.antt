@@ -6,3 +6,10 @@ pub mod Placing
 pub mod Called
 pub mod Tallied
 pub mod Worldly
+pub mod Settling
+pub mod TourVisits
+pub mod TourPlaces
+pub mod TourSteps
+pub mod TourEnd
+pub mod Finishing
+pub mod TheLaw

@@ -87,15 +87,14 @@ module _ {V : Type 0} {lawful : V → Bool} {tidied : V → Option V} {word : V 
     (Touring : ℕ → ℕ → List Field → List (Cell V) → Tour V → Type 0)
     -- it holds at the start
     (starts : (size mark : ℕ) (H : List Field) (free : List ℕ) (O : List (Cell V)) (G : Graph V) (spare : List (Cell V)) → Sound lawful size mark H free O G → length spare ≡ size
-        → Touring size mark H O (record { mark = mark; size = size; hands = H; old = O; new = spare; steps = 0; copied = 0; marks = 0 }))
+    → Touring size mark H O (record { mark = mark; size = size; hands = H; old = O; new = spare; steps = 0; copied = 0; marks = 0 }))
     -- no step is spoiled, and every step keeps it
     (goes : (size mark : ℕ) (H : List Field) (O : List (Cell V)) (t : Tour V) → Touring size mark H O t → (n : ℕ) → (march n t .broken ≡ false) × Touring size mark H O (march n t .tour))
     -- the size and the mark stay
     (stays : (size mark : ℕ) (H : List Field) (O : List (Cell V)) (t : Tour V) → Touring size mark H O t → (t .size ≡ size) × (t .mark ≡ mark) × (length (t .old) ≡ size))
     -- at the end the new bank is sound with the same plain graph
     (arrives : (size mark : ℕ) (H : List Field) (free : List ℕ) (O : List (Cell V)) (G : Graph V) (t : Tour V) → Sound lawful size mark H free O G → Touring size mark H O t
-        → Sound lawful size (marchAll t .tour .copied) (marchAll t .tour .hands) [] (marchAll t .tour .new) G) where
-
+    → Sound lawful size (marchAll t .tour .copied) (marchAll t .tour .hands) [] (marchAll t .tour .new) G) where
   -- a world that is collecting: what Begin found was sound, and the steps since keep the invariant
   pub record InTour (w : World V) : Type 0 where
     pub found : List (Cell V)
@@ -120,7 +119,7 @@ module _ {V : Type 0} {lawful : V → Bool} {tidied : V → Option V} {word : V 
           banks = banksAfter tidied (w .banks) (unless o (effect tidied (stateOf (w .banks)) c) (λ _. stateOf (w .banks)) (λ t. t));
           plain = ifAccepted tidied said (plainCall tidied (w .plain) c) (w .plain);
           begunHands = ifAccepted tidied said (w .begunHands) (w .begunHands);
-          begunCells = ifAccepted tidied said (w .begunCells) (w .begunCells)
+          begunCells = ifAccepted tidied said (w .begunCells) (w .begunCells);
         }
 
     calls-after : (n : ℕ) (c : Call V) (o : Option Cause) → causeOf tidied (w .banks .model) n (w .banks .cells) c ≡ o → after tidied w (calls n c) ≡ callsBy n c o
@@ -134,7 +133,7 @@ module _ {V : Type 0} {lawful : V → Bool} {tidied : V → Option V} {word : V 
           banks = unless o (actEffect (w .banks) a) (λ _. w .banks) (λ x. x);
           plain = ifAccepted tidied said G (w .plain);
           begunHands = ifAccepted tidied said hs (w .begunHands);
-          begunCells = ifAccepted tidied said cs (w .begunCells)
+          begunCells = ifAccepted tidied said cs (w .begunCells);
         }
 
     begins-after : (n : ℕ) (spare : List (Cell V)) (o : Option Cause) → actCause (w .banks .model) n (length spare) (begin spare) ≡ o
@@ -203,6 +202,7 @@ module _ {V : Type 0} {lawful : V → Bool} {tidied : V → Option V} {word : V 
         where
           said : Result (Said V) Cause
           said = saying replied (actReply (w .banks) a)
+
           same-either : {X : Type 0} (r : Result (Said V) Cause) (x : X) → ifAccepted tidied r x x ≡ x
           same-either (Ok y) x = refl
           same-either (Err y) x = refl
@@ -379,6 +379,31 @@ module _ {V : Type 0} {lawful : V → Bool} {tidied : V → Option V} {word : V 
             let z : _≡_ {A = Result (Said V) Cause} (Ok (answered s)) (Ok (answered (answerOf (stateOf (w .banks)) (call.look h)))) = sym x ∙ calls-answer n (call.look h) None y in
             let q : s ≡ sight (call.sightOf (w .banks .cells) (handOf (w .banks .model) h)) = cc in
             q ∙ ap sight (look-plain laws (w .banks .model) (w .banks .cells) (w .plain) S h l)
+      ]
+
+      -- an accepted Finish: where the collection stood, what is left, and what is answered
+      pub record Ended (n k cells marks : ℕ) : Type 0 where
+        pub tour : InTour w
+        pub now : after tidied w (finishes n k) ≡ record { banks = settled (marchAll (tourOf (w .banks)) .tour); plain = w .plain; begunHands = w .begunHands; begunCells = w .begunCells }
+        pub cells-are : marchAll (tourOf (w .banks)) .tour .copied ≡ cells
+        pub marks-are : marchAll (tourOf (w .banks)) .tour .marks ≡ marks
+
+      pub finish-ended : (n k cells marks : ℕ) → answer tidied w (finishes n k) ≡ Ok (replied (kept-marks cells marks)) → Ended n k cells marks
+      finish-ended n k cells marks x = elim (some-or-none (actCause {V = V} (w .banks .model) n k finish)) [
+        | inl y ↦ absurd (ok-err x (acts-answer finish n k (Some (y .0)) (y .1)))
+        | inr e ↦
+            let N = 16 + 2 * w .banks .model .size - stepsOf (w .banks .model .mode) in
+            let t = marchAll (tourOf (w .banks)) .tour in
+            let said : Reply = kept-marks (t .copied) (t .marks) in
+            let T = good .inside (finish-on n k e) in
+            let a : answer tidied w (finishes n k) ≡ Ok (replied said) = acts-answer finish n k None e ∙ ap (λ b. saying replied (cond b (Err Spoiled) (Ok said))) (gone T N .0) in
+            let q : _≡_ {A = Result (Said V) Cause} (Ok (replied said)) (Ok (replied (kept-marks cells marks))) = sym a ∙ x in
+            record {
+              tour = T;
+              now = finishes-after n k None e ∙ accepted-banks finish (settled (marchAll (tourOf (w .banks)) .tour)) (finish-settles T);
+              cells-are = cc;
+              marks-are = cc;
+            }
       ]
 
       pub good-throughout : Throughout tidied alike w

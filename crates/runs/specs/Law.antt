@@ -72,20 +72,20 @@ module _ {V : Type 0} (tidied : V → Option V) (alike : V → V → Bool) where
   abbrev pub HadUnique : World V → ℕ → Type 0
   HadUnique w a = (p : ℕ) × (r : Reference) × (holds (w .begunHands) (w .begunCells) p ≡ To r) × (r .tag ≡ Unique) × (r .address ≡ a)
 
-  -- w is the world before a Finish that is accepted with these answers
-  pub record Finished (w : World V) (n k cells marks : ℕ) : Type 0 where
+  -- w is the world before a Finish that is accepted with these answers, and w′ the world after it
+  pub record Finished (w w′ : World V) (cells marks : ℕ) : Type 0 where
     -- a reference is UNIQUE exactly when it is the only one to its cell
-    pub unique-exactly : (p : ℕ) (r : Reference) → held (after tidied w (finishes n k) .banks) p ≡ To r
-        → (r .tag ≡ Unique) ↔ (Another (held (after tidied w (finishes n k) .banks)) p (r .address) → ⊥)
+    pub unique-exactly : (p : ℕ) (r : Reference) → held (w′ .banks) p ≡ To r
+        → (r .tag ≡ Unique) ↔ (Another (held (w′ .banks)) p (r .address) → ⊥)
     -- what is kept is alike to the plain graph, canonical, and as many cells as the plain graph has reachable nodes
-    pub alike-plain : Alike alike (graphKept (after tidied w (finishes n k) .banks)) (w .plain)
-    pub canonical : Canonical (after tidied w (finishes n k) .banks .model .hands) (kept (after tidied w (finishes n k) .banks))
-    pub as-many : length (kept (after tidied w (finishes n k) .banks)) ≡ cells
+    pub alike-plain : Alike alike (graphKept (w′ .banks)) (w .plain)
+    pub canonical : Canonical (w′ .banks .model .hands) (kept (w′ .banks))
+    pub as-many : length (kept (w′ .banks)) ≡ cells
     pub counted : Counts (Reachable (w .plain)) cells
     -- marks + entered UNIQUE = kept + shared
     pub entered : ℕ
     pub shared : ℕ
-    pub partner : Alike alike (graphKept (after tidied w (finishes n k) .banks)) (graphOf (w .begunHands) (w .begunCells))
+    pub partner : Alike alike (graphKept (w′ .banks)) (graphOf (w .begunHands) (w .begunCells))
     pub entered-counted : Counts (λ j. (j < cells) × HadUnique w (partner .forth j)) entered
     pub shared-counted : Counts (Shared (w .plain)) shared
     pub sum : marks + entered ≡ cells + shared
@@ -93,11 +93,11 @@ module _ {V : Type 0} (tidied : V → Option V) (alike : V → V → Bool) where
     pub steps : marchAll (tourOf (w .banks)) .tour .steps ≡ 16 + 2 * cells
     -- a Pair call next is refused exactly when every cell is kept and its hand is not UNIQUE
     pub pair-next : (h : ℕ) → h ≤ 15
-        → ((c : Cause) × (answer tidied (after tidied w (finishes n k)) (calls (w .banks .model .size) (call.pair h)) ≡ Err c))
-        ↔ ((cells ≡ w .banks .model .size) × (uniqueField (handOf (after tidied w (finishes n k) .banks .model) h) ≡ false))
+        → ((c : Cause) × (answer tidied w′ (calls (w .banks .model .size) (call.pair h)) ≡ Err c))
+        ↔ ((cells ≡ w .banks .model .size) × (uniqueField (handOf (w′ .banks .model) h) ≡ false))
 
   abbrev pub FinishedRightly : World V → Type 0
-  FinishedRightly w = (n k cells marks : ℕ) → answer tidied w (finishes n k) ≡ Ok (replied (kept-marks cells marks)) → Finished w n k cells marks
+  FinishedRightly w = (n k cells marks : ℕ) → answer tidied w (finishes n k) ≡ Ok (replied (kept-marks cells marks)) → Finished w (after tidied w (finishes n k)) cells marks
 
   -- ---- the law
 
