@@ -8,9 +8,9 @@ use lib.ListN.{length, set, take}
 use Rattle.std.proofs.shelf.Ways.{tells}
 use Rattle.cells.specs.declared.Field.{Field}
 use Rattle.store.specs.Fields.{past, belowTop}
-use Rattle.store.specs.Bounds.{pushed, heldBelow, listedBelow}
+use Rattle.store.specs.Bounds.{pushed, handsBelow, listedBelow}
 
-held-set : (n : ℕ) (fs : List Field) (h : ℕ) (f : Field) → heldBelow n fs ≡ true → past n f ≡ false → heldBelow n (set fs h f) ≡ true
+held-set : (n : ℕ) (fs : List Field) (h : ℕ) (f : Field) → handsBelow n fs ≡ true → past n f ≡ false → handsBelow n (set fs h f) ≡ true
 held-set n [] h f all ok = refl
 held-set n (g ∷ fs) zero f all ok = grind (arith, tells)
 held-set n (g ∷ fs) (suc h) f all ok = grind (arith, tells, held-set n fs h f)
@@ -25,8 +25,8 @@ below-take n (suc k) [] all = refl
 below-take n (suc k) (x ∷ xs) all = grind (arith, tells, below-take n k xs)
 
 -- the same by what the parts were before
-pub keeps-hands : (n : ℕ) (fs gs : List Field) (h : ℕ) (f : Field) (was : Bool) → gs ≡ set fs h f → heldBelow n fs ≡ true → was ≡ past n f → (was ≡ true → ⊥) → heldBelow n gs ≡ true
-keeps-hands n fs gs h f was e all p inside = ap (heldBelow n) e ∙ held-set n fs h f all (grind (arith, tells))
+pub keeps-hands : (n : ℕ) (fs gs : List Field) (h : ℕ) (f : Field) (was : Bool) → gs ≡ set fs h f → handsBelow n fs ≡ true → was ≡ past n f → (was ≡ true → ⊥) → handsBelow n gs ≡ true
+keeps-hands n fs gs h f was e all p inside = ap (handsBelow n) e ∙ held-set n fs h f all (grind (arith, tells))
 
 pub keeps-pushed : (n mark a : ℕ) (xs ys : List ℕ) → ys ≡ pushed a xs → listedBelow n xs ≡ true → a < mark → mark ≤ n → listedBelow n ys ≡ true
 keeps-pushed n mark a xs ys e all lt le = ap (listedBelow n) e ∙ grind (arith, tells, below-append n xs a)

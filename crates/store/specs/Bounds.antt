@@ -26,9 +26,9 @@ topOf free = cond (eqb (length free) 0) None (Some (top free))
 -- ---- the bounds
 
 -- every reference in a hand is below a bound
-abbrev pub heldBelow : ℕ → List Field → Bool
-heldBelow n [] = true
-heldBelow n (f ∷ fs) = not (past n f) && heldBelow n fs
+abbrev pub handsBelow : ℕ → List Field → Bool
+handsBelow n [] = true
+handsBelow n (f ∷ fs) = not (past n f) && handsBelow n fs
 
 -- every listed address is below a bound
 abbrev pub listedBelow : ℕ → List ℕ → Bool

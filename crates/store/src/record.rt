@@ -2,7 +2,7 @@
 ghost use mathlib.Core.Path.{_≡_};
 ghost use mathlib.Core.Bool.{true};
 ghost use Prim.Native.Nat.{_≤_};
-ghost use Rattle.store.specs.Bounds.{listed, heldBelow, listedBelow};
+ghost use Rattle.store.specs.Bounds.{listed, handsBelow, listedBelow};
 use crate::Mode;
 use crate::free::FreeList;
 use crate::hands::Hands;
@@ -21,6 +21,6 @@ pub struct Record {
     ghost some: { 1 ≤ size },
     ghost fits: { size ≤ 32768 },
     ghost marked: { mark ≤ size },
-    ghost held: { heldBelow size (hands .fields) ≡ true },
+    ghost held: { handsBelow size (hands .fields) ≡ true },
     ghost below: { listedBelow size (listed (free .count) (free .at)) ≡ true },
 }
