@@ -11,7 +11,7 @@ use Rattle.store.specs.Fields.{past, top}
 
 -- ---- the free list
 
--- the addresses listed by a count and what stands before and behind it
+-- the addresses listed: as many as are counted
 abbrev pub listed : ℕ → List ℕ → List ℕ
 listed count at = take count at
 

@@ -15,11 +15,11 @@ fn field_at(fields: &[Field], h: usize) -> Field
     }
 }
 
-fn put_field(fields: &mut [Field], h: usize, field: Field)
-    ensures { λ _. ⌜ now (fields .exit) ≡ set (now (fields .entry)) h field ⌝ }
+fn put_field(table: &mut [Field], h: usize, field: Field)
+    ensures { λ _. ⌜ now (table .exit) ≡ set (now (table .entry)) h field ⌝ }
 {
-    if h < fields.len() {
-        fields[h] = field;
+    if h < table.len() {
+        table[h] = field;
     }
 }
 
