@@ -1,6 +1,5 @@
 use borrow.Author.Needs.{needs}
-use Rattle.std.proofs.shelf.Lists.{take-more-set, length-take-le}
-use Rattle.std.proofs.shelf.Ways.{tells}
+use Rattle.std.proofs.shelf.Lists.{take-more-set}
 use Rattle.store.proofs.free.FreeList.push.Needs as need
 
 pub returns-then-self-lt16 : need.returns-then-self-lt16
