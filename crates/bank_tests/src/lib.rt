@@ -1,4 +1,6 @@
 // The same tests on both kinds of bank, at both leaf kinds.
+#![tactic(auto)]
+
 #[cfg(test)]
 mod tests {
     use banks::open::OpenBank;

@@ -13,25 +13,25 @@ use cells::leaves::LeafKind;
 
 // Puts a cell into any bank.
 pub fn put_through<V: LeafKind, B: Bank<V>>(bank: &mut B, at: u16, cell: &Cell<V>) -> bool
-    ensures answer { result ≡ takes lawful (cells bank.old) at cell.now }
-    ensures after { cells bank.new ≡ after_put lawful (cells bank.old) at cell.now }
-    ensures rooted { root bank.new ≡ root bank.old }
+    ensures answer { result ≡ takes V.lawful (B.cells bank.old) at cell.now }
+    ensures after { B.cells bank.new ≡ after_put V.lawful (B.cells bank.old) at cell.now }
+    ensures rooted { B.root bank.new ≡ B.root bank.old }
 {
     bank.put(at, cell)
 }
 
 // Puts a cell into lent cells.
 pub fn put_into_cells<V: LeafKind>(lent: &mut [Cell<V>], at: u16, cell: &Cell<V>) -> bool
-    ensures answer { result ≡ takes lawful (open_cells lawful lent.old) at cell.now }
-    ensures after { open_cells lawful lent.new ≡ after_put lawful (open_cells lawful lent.old) at cell.now }
+    ensures answer { result ≡ takes V.lawful (open_cells V.lawful lent.old) at cell.now }
+    ensures after { open_cells V.lawful lent.new ≡ after_put V.lawful (open_cells V.lawful lent.old) at cell.now }
 {
     let mut bank = OpenBank::new(lent);
     put_through(&mut bank, at, cell)
 }
 
 fn put_into_all<V: LeafKind>(bytes: &mut [u8], at: u16, cell: &Cell<V>) -> bool
-    ensures answer { result ≡ takes lawful (packed_cells taken bytes.old) at cell.now }
-    ensures after { packed_cells taken bytes.new ≡ after_put lawful (packed_cells taken bytes.old) at cell.now }
+    ensures answer { result ≡ takes V.lawful (packed_cells V.taken bytes.old) at cell.now }
+    ensures after { packed_cells V.taken bytes.new ≡ after_put V.lawful (packed_cells V.taken bytes.old) at cell.now }
 {
     let mut bank = PackedBank::new(bytes);
     put_through(&mut bank, at, cell)
@@ -39,9 +39,9 @@ fn put_into_all<V: LeafKind>(bytes: &mut [u8], at: u16, cell: &Cell<V>) -> bool
 
 // Puts a cell into lent bytes. A cell that was put has its own `nine`. Those left over are not lent, so they stay.
 pub fn put_into_bytes<V: LeafKind>(bytes: &mut [u8], at: u16, cell: &Cell<V>) -> bool
-    ensures answer { result ≡ packed_takes lawful bytes.old at cell.now }
-    ensures after { packed_cells taken bytes.new ≡ after_put lawful (packed_cells taken bytes.old) at cell.now }
-    ensures nine { result ≡ true → nine_at bytes.new at ≡ pack_cell lawful word cell.now }
+    ensures answer { result ≡ packed_takes V.lawful bytes.old at cell.now }
+    ensures after { packed_cells V.taken bytes.new ≡ after_put V.lawful (packed_cells V.taken bytes.old) at cell.now }
+    ensures nine { result ≡ true → nine_at bytes.new at ≡ pack_cell V.lawful V.word cell.now }
     ensures rest { left_over bytes.new ≡ left_over bytes.old }
 {
     let used = 9 * size_packed(bytes);

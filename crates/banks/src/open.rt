@@ -8,14 +8,14 @@ use cells::banks::Bank;
 use cells::leaves::LeafKind;
 
 fn is_lawful<V: LeafKind>(v: V) -> bool
-    ensures { result ≡ lawful v }
+    ensures { result ≡ V.lawful v }
 {
     v.to_word().is_some()
 }
 
 // Whether a bank takes the cell at an address below its size.
 pub fn is_storable<V: LeafKind>(cell: &Cell<V>) -> bool
-    ensures { result ≡ storable lawful cell.now }
+    ensures { result ≡ storable V.lawful cell.now }
 {
     match *cell {
         Cell::Blank => false,
@@ -25,7 +25,7 @@ pub fn is_storable<V: LeafKind>(cell: &Cell<V>) -> bool
 }
 
 fn as_read<V: LeafKind>(cell: &Cell<V>) -> Cell<V>
-    ensures { result ≡ readable lawful cell.now }
+    ensures { result ≡ readable V.lawful cell.now }
 {
     match *cell {
         Cell::Leaf(v) if !is_lawful(v) => Cell::Blank,
@@ -42,7 +42,7 @@ fn lent_at<V: LeafKind>(lent: &[Cell<V>], at: u16) -> Option<Cell<V>>
 
 // The lent cell at an address as it reads, none at or past the end.
 pub fn read_open<V: LeafKind>(lent: &[Cell<V>], at: u16) -> Option<Cell<V>>
-    ensures found { result ≡ found_readable lawful (cell_at lent.now at) }
+    ensures found { result ≡ found_readable V.lawful (cell_at lent.now at) }
 {
     match lent_at(lent, at) {
         Some(cell) => Some(as_read(&cell)),
@@ -53,8 +53,8 @@ pub fn read_open<V: LeafKind>(lent: &[Cell<V>], at: u16) -> Option<Cell<V>>
 // Writes a pair, a moved cell or a lawful leaf at an address below the length, and answers yes.
 // Anything else gets no, and no lent cell is altered.
 pub fn put_open<V: LeafKind>(lent: &mut [Cell<V>], at: u16, cell: &Cell<V>) -> bool
-    ensures answer { result ≡ takes lawful lent.old at cell.now }
-    ensures after { lent.new ≡ after_put lawful lent.old at cell.now }
+    ensures answer { result ≡ takes V.lawful lent.old at cell.now }
+    ensures after { lent.new ≡ after_put V.lawful lent.old at cell.now }
 {
     let i = at as usize;
     if i >= lent.len() || !is_storable(cell) {
@@ -66,21 +66,21 @@ pub fn put_open<V: LeafKind>(lent: &mut [Cell<V>], at: u16, cell: &Cell<V>) -> b
 
 // The three by what the lent cells mean.
 fn meant_size<V: LeafKind>(lent: &[Cell<V>]) -> usize
-    ensures { result ≡ length (open_cells lawful lent.now) }
+    ensures { result ≡ length (open_cells V.lawful lent.now) }
 {
     lent.len()
 }
 
 fn meant_read<V: LeafKind>(lent: &[Cell<V>], at: u16) -> Option<Cell<V>>
-    ensures found { result ≡ cell_at (open_cells lawful lent.now) at }
-    ensures lawful { found_lawful lawful result ≡ true }
+    ensures found { result ≡ cell_at (open_cells V.lawful lent.now) at }
+    ensures lawful { found_lawful V.lawful result ≡ true }
 {
     read_open(lent, at)
 }
 
 fn meant_put<V: LeafKind>(lent: &mut [Cell<V>], at: u16, cell: &Cell<V>) -> bool
-    ensures answer { result ≡ takes lawful (open_cells lawful lent.old) at cell.now }
-    ensures after { open_cells lawful lent.new ≡ after_put lawful (open_cells lawful lent.old) at cell.now }
+    ensures answer { result ≡ takes V.lawful (open_cells V.lawful lent.old) at cell.now }
+    ensures after { open_cells V.lawful lent.new ≡ after_put V.lawful (open_cells V.lawful lent.old) at cell.now }
 {
     put_open(lent, at, cell)
 }

@@ -47,8 +47,8 @@ fn write_nine(bytes: &mut [u8], at: u16, nine: &[u8; 9])
 
 // The cell of the nine bytes at an address, none at or past the size.
 pub fn read_packed<V: LeafKind>(bytes: &[u8], at: u16) -> Option<Cell<V>>
-    ensures found { result ≡ cell_in taken bytes.now at }
-    ensures lawful { found_lawful lawful result ≡ true }
+    ensures found { result ≡ cell_in V.taken bytes.now at }
+    ensures lawful { found_lawful V.lawful result ≡ true }
 {
     if 9 * at as usize + 9 > bytes.len() {
         return None;
@@ -59,9 +59,9 @@ pub fn read_packed<V: LeafKind>(bytes: &[u8], at: u16) -> Option<Cell<V>>
 // Writes the nine bytes of a pair, a moved cell or a lawful leaf at an address below the size, and answers yes; else no, and
 // nothing is altered.
 pub fn put_packed<V: LeafKind>(bytes: &mut [u8], at: u16, cell: &Cell<V>) -> bool
-    ensures answer { result ≡ packed_takes lawful bytes.old at cell.now }
-    ensures back { result ≡ true → unpack_cell taken (pack_cell lawful word cell.now) ≡ cell.now }
-    ensures after { bytes.new ≡ packed_after lawful word bytes.old at cell.now }
+    ensures answer { result ≡ packed_takes V.lawful bytes.old at cell.now }
+    ensures back { result ≡ true → unpack_cell V.taken (pack_cell V.lawful V.word cell.now) ≡ cell.now }
+    ensures after { bytes.new ≡ packed_after V.lawful V.word bytes.old at cell.now }
 {
     if 9 * at as usize + 9 > bytes.len() || !is_storable(cell) {
         return false;
@@ -72,21 +72,21 @@ pub fn put_packed<V: LeafKind>(bytes: &mut [u8], at: u16, cell: &Cell<V>) -> boo
 
 // The three by what the lent bytes mean.
 fn meant_size<V: LeafKind>(bytes: &[u8]) -> usize
-    ensures { result ≡ length (packed_cells taken bytes.now) }
+    ensures { result ≡ length (packed_cells V.taken bytes.now) }
 {
     size_packed(bytes)
 }
 
 fn meant_read<V: LeafKind>(bytes: &[u8], at: u16) -> Option<Cell<V>>
-    ensures found { result ≡ cell_at (packed_cells taken bytes.now) at }
-    ensures lawful { found_lawful lawful result ≡ true }
+    ensures found { result ≡ cell_at (packed_cells V.taken bytes.now) at }
+    ensures lawful { found_lawful V.lawful result ≡ true }
 {
     read_packed(bytes, at)
 }
 
 fn meant_put<V: LeafKind>(bytes: &mut [u8], at: u16, cell: &Cell<V>) -> bool
-    ensures answer { result ≡ takes lawful (packed_cells taken bytes.old) at cell.now }
-    ensures after { packed_cells taken bytes.new ≡ after_put lawful (packed_cells taken bytes.old) at cell.now }
+    ensures answer { result ≡ takes V.lawful (packed_cells V.taken bytes.old) at cell.now }
+    ensures after { packed_cells V.taken bytes.new ≡ after_put V.lawful (packed_cells V.taken bytes.old) at cell.now }
 {
     put_packed(bytes, at, cell)
 }

@@ -1,4 +1,6 @@
 // The work that the benchmark times: puts and reads over a whole packed bank of points, called from C.
+#![tactic(auto)]
+
 use banks::packed::PackedBank;
 use cells::banks::Bank;
 use cells::leaves::LeafKind;

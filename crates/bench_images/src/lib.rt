@@ -1,4 +1,6 @@
 // The work that the benchmark times: the check of an image of points, called from C.
+#![tactic(auto)]
+
 use images::check;
 use kinds::points::Point;
 

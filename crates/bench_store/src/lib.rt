@@ -1,4 +1,6 @@
 // The work that the benchmark times: collections and calls on packed banks of points, called from C.
+#![tactic(auto)]
+
 ghost use Rattle.runs.specs.Rigs.{banks_of, Fits};
 
 use banks::packed::PackedBank;
@@ -11,7 +13,7 @@ use runs::scripts::{Answer, Call, Edit};
 
 // Collects again and again, and adds up what is kept and marked.
 fn collections<V: LeafKind, A: Bank<V>, B: Bank<V>>(rig: &mut Rig<A, B>, times: u32) -> u64
-    ensures { Fits (banks_of A.Bank.cells B.Bank.cells rig.old) → Fits (banks_of A.Bank.cells B.Bank.cells rig.new) }
+    ensures { Fits (banks_of A.cells B.cells rig.old) → Fits (banks_of A.cells B.cells rig.new) }
 {
     let mut sum = 0u64;
     for _time in 0..times {
@@ -44,7 +46,7 @@ fn call_of(n: u32) -> Call<Point> {
 
 // Makes calls that follow from one another, and counts those that are accepted.
 fn edits<A: Bank<Point>, B: Bank<Point>>(rig: &mut Rig<A, B>, times: u32) -> u64
-    ensures { Fits (banks_of A.Bank.cells B.Bank.cells rig.old) → Fits (banks_of A.Bank.cells B.Bank.cells rig.new) }
+    ensures { Fits (banks_of A.cells B.cells rig.old) → Fits (banks_of A.cells B.cells rig.new) }
 {
     let mut accepted = 0u64;
     let mut n = 1u32;

@@ -1,5 +1,7 @@
 // Runs cases with known answers through the reading of packed cells: `KIND NINE-BYTES what they read as`, a leaf without its value.
 // What reads as a cell that is not blank is packed again, and has to give the same bytes.
+#![tactic(auto)]
+
 use cells::Cell;
 use cells::leaves::LeafKind;
 use dumps::cell_text;

@@ -20,20 +20,20 @@ pub trait Bank<V: LeafKind> {
     // The cell at an address, none at or past the size. A leaf that is read is lawful.
     fn read(&self, at: u16) -> Option<Cell<V>>
         ensures found { result ≡ cell_at (cells self.now) at }
-        ensures lawful { found_lawful V.LeafKind.lawful result ≡ true };
+        ensures lawful { found_lawful V.lawful result ≡ true };
 
     // Writes a pair, a moved cell or a lawful leaf at an address below the size, and answers yes.
     // Anything else gets no, and no cell is altered.
     fn put(&mut self, at: u16, cell: &Cell<V>) -> bool
-        ensures answer { result ≡ takes V.LeafKind.lawful (cells self.old) at cell.now }
-        ensures after { cells self.new ≡ after_put V.LeafKind.lawful (cells self.old) at cell.now }
+        ensures answer { result ≡ takes V.lawful (cells self.old) at cell.now }
+        ensures after { cells self.new ≡ after_put V.lawful (cells self.old) at cell.now }
         ensures rooted { root self.new ≡ root self.old };
 }
 
 // The cell at an address. Past the size there is as little as in a blank cell.
 pub fn cell_at<V: LeafKind, B: Bank<V>>(bank: &B, at: u16) -> Cell<V>
-    ensures found { result ≡ slice_index_or (cells bank.now) at Blank }
-    ensures lawful { leaf_lawful V.LeafKind.lawful result ≡ true }
+    ensures found { result ≡ slice_index_or (B.cells bank.now) at Blank }
+    ensures lawful { leaf_lawful V.lawful result ≡ true }
 {
     match bank.read(at) {
         Some(cell) => cell,

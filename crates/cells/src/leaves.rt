@@ -43,7 +43,7 @@ pub trait LeafKind: Copy {
 
 // Whether two raw values mean the same, or the refusal of the first that its kind does not accept.
 pub fn compare<V: LeafKind>(a: V, b: V) -> Result<bool, Cause>
-    ensures { result ≡ comparison (tidied a) (tidied b) (alike a b) }
+    ensures { result ≡ comparison (V.tidied a) (V.tidied b) (V.alike a b) }
 {
     let x = a.tidy()?;
     let y = b.tidy()?;

@@ -1,4 +1,6 @@
 // The words that every other crate shares: what a cell is, why a call is refused, what a leaf kind promises.
+#![tactic(auto)]
+
 pub mod banks;
 pub mod causes;
 pub mod leaves;

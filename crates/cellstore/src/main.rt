@@ -1,4 +1,6 @@
 // The program: it reads and compares what a bench stores.
+#![tactic(auto)]
+
 use commands::Ended;
 use std::env;
 

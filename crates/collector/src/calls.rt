@@ -63,7 +63,7 @@ pub fn begin<V: LeafKind, O: Bank<V>, N: Bank<V>>(
     working: &O,
     spare: &N,
 ) -> Result<Ticket, Cause>
-    ensures { Acted (begin (N.Bank.cells spare.now)) (banks_at (view store.old) (O.Bank.cells working.now) (N.Bank.cells spare.now)) (begun_reply result) (banks_at (view store.new) (O.Bank.cells working.now) (N.Bank.cells spare.now)) }
+    ensures { Acted (begin (N.cells spare.now)) (banks_at (view store.old) (O.cells working.now) (N.cells spare.now)) (begun_reply result) (banks_at (view store.new) (O.cells working.now) (N.cells spare.now)) }
 {
     both_sized(store, working.size(), spare.size())?;
     store.turn(Event::Begun)?;
@@ -78,9 +78,9 @@ pub fn slice<V: LeafKind, O: Bank<V>, N: Bank<V>>(
     new: &mut N,
     budget: u32,
 ) -> Result<u32, Cause>
-    ensures acted { Acted (slice budget) (banks_at (view store.old) (O.Bank.cells old.old) (N.Bank.cells new.old)) (sliced_reply result) (banks_at (view store.new) (O.Bank.cells old.new) (N.Bank.cells new.new)) }
-    ensures old_rooted { O.Bank.root old.new ≡ O.Bank.root old.old }
-    ensures new_rooted { N.Bank.root new.new ≡ N.Bank.root new.old }
+    ensures acted { Acted (slice budget) (banks_at (view store.old) (O.cells old.old) (N.cells new.old)) (sliced_reply result) (banks_at (view store.new) (O.cells old.new) (N.cells new.new)) }
+    ensures old_rooted { O.root old.new ≡ O.root old.old }
+    ensures new_rooted { N.root new.new ≡ N.root new.old }
 {
     under_way(store, old.size(), new.size())?;
     let before = steps_made(store);
@@ -97,9 +97,9 @@ pub fn finish<V: LeafKind, O: Bank<V>, N: Bank<V>>(
     old: &mut O,
     new: &mut N,
 ) -> Result<(u32, u32), (Cause, Ticket)>
-    ensures acted { Acted finish (banks_at (view store.old) (O.Bank.cells old.old) (N.Bank.cells new.old)) (finished_reply result) (exchanged_by result (view store.new) (O.Bank.cells old.new) (N.Bank.cells new.new)) }
-    ensures old_rooted { O.Bank.root old.new ≡ O.Bank.root old.old }
-    ensures new_rooted { N.Bank.root new.new ≡ N.Bank.root new.old }
+    ensures acted { Acted finish (banks_at (view store.old) (O.cells old.old) (N.cells new.old)) (finished_reply result) (exchanged_by result (view store.new) (O.cells old.new) (N.cells new.new)) }
+    ensures old_rooted { O.root old.new ≡ O.root old.old }
+    ensures new_rooted { N.root new.new ≡ N.root new.old }
 {
     if let Err(cause) = under_way(store, old.size(), new.size()) {
         return Err((cause, ticket));
@@ -120,7 +120,7 @@ pub fn abandon<V: LeafKind, O: Bank<V>>(
     store: &mut Record,
     old: &O,
 ) -> Result<(), (Cause, Ticket)>
-    ensures { (fresh : List (Cell V)) → Acted abandon (banks_at (view store.old) (cells old.now) fresh) (abandoned_reply result) (banks_at (view store.new) (cells old.now) fresh) }
+    ensures { (fresh : List (Cell V)) → Acted abandon (banks_at (view store.old) (O.cells old.now) fresh) (abandoned_reply result) (banks_at (view store.new) (O.cells old.now) fresh) }
 {
     let size = old.size();
     if let Err(cause) = both_sized(store, size, size) {

@@ -1,5 +1,7 @@
 // A collection: what is reachable is copied into the spare bank, every tag is set right, and the cells are laid out in the
 // canonical order.
+#![tactic(auto)]
+
 pub mod calls;
 mod marches;
 mod steps;

@@ -19,10 +19,10 @@ pub fn make_steps<V: LeafKind, O: Bank<V>, N: Bank<V>>(
     most: u32,
 ) -> bool
     requires { is_collecting (view store.old).mode ≡ true }
-    ensures broken { result ≡ (march most (tour_of (banks_at (view store.old) (O.Bank.cells old.old) (N.Bank.cells new.old)))).broken }
-    ensures after { banks_at (view store.new) (O.Bank.cells old.new) (N.Bank.cells new.new) ≡ standing (view store.old).free (march most (tour_of (banks_at (view store.old) (O.Bank.cells old.old) (N.Bank.cells new.old)))).tour }
-    ensures old_rooted { O.Bank.root old.new ≡ O.Bank.root old.old }
-    ensures new_rooted { N.Bank.root new.new ≡ N.Bank.root new.old }
+    ensures broken { result ≡ (march most (tour_of (banks_at (view store.old) (O.cells old.old) (N.cells new.old)))).broken }
+    ensures after { banks_at (view store.new) (O.cells old.new) (N.cells new.new) ≡ standing (view store.old).free (march most (tour_of (banks_at (view store.old) (O.cells old.old) (N.cells new.old)))).tour }
+    ensures old_rooted { O.root old.new ≡ O.root old.old }
+    ensures new_rooted { N.root new.new ≡ N.root new.old }
 {
     for made in 0..most {
         match step(store, old, new) {

@@ -43,12 +43,12 @@ fn copy_over<V: LeafKind, O: Bank<V>, N: Bank<V>>(
     met: Reference,
     cell: &Cell<V>,
 ) -> Result<(), Cause>
-    requires visiting { Visiting (view store.old) (N.Bank.cells new.old) visit }
+    requires visiting { Visiting (view store.old) (N.cells new.old) visit }
     requires fits { place_fits visit.place visit.cell ≡ true }
-    requires storable { storable V.LeafKind.lawful cell.now ≡ true }
-    ensures went { Went roomless (λ t. copied_over t met cell.now) (banks_at (view store.old) (O.Bank.cells old.old) (N.Bank.cells new.old)) result (banks_at (view store.new) (O.Bank.cells old.new) (N.Bank.cells new.new)) }
-    ensures old_rooted { O.Bank.root old.new ≡ O.Bank.root old.old }
-    ensures new_rooted { N.Bank.root new.new ≡ N.Bank.root new.old }
+    requires storable { storable V.lawful cell.now ≡ true }
+    ensures went { Went roomless (λ t. copied_over t met cell.now) (banks_at (view store.old) (O.cells old.old) (N.cells new.old)) result (banks_at (view store.new) (O.cells old.new) (N.cells new.new)) }
+    ensures old_rooted { O.root old.new ≡ O.root old.old }
+    ensures new_rooted { N.root new.new ≡ N.root new.old }
 {
     let marks = is_sticky(met.tag);
     store.turn(Event::Stepped {
@@ -79,7 +79,7 @@ fn cell_of_source<V: LeafKind, N: Bank<V>>(
     copied: u16,
     source: Source,
 ) -> Result<Cell<V>, Cause>
-    ensures { result ≡ source_cell copied (cells new.now) source }
+    ensures { result ≡ source_cell copied (N.cells new.now) source }
 {
     match source {
         Source::Hand(h) if h < 16 => Ok(Cell::Blank),
@@ -123,12 +123,12 @@ fn meet_again<V: LeafKind, O: Bank<V>, N: Bank<V>>(
     address: u16,
     source: Source,
 ) -> Result<(), Cause>
-    requires visiting { Visiting (view store.old) (N.Bank.cells new.old) visit }
+    requires visiting { Visiting (view store.old) (N.cells new.old) visit }
     requires fits { place_fits visit.place visit.cell ≡ true }
     requires below { address < visit.copied }
-    ensures went { Went (λ t. not (source_good t.copied t.new source)) (λ t. second_met t met (record { tag = Unique; address = address }) source) (banks_at (view store.old) (O.Bank.cells old.old) (N.Bank.cells new.old)) result (banks_at (view store.new) (O.Bank.cells old.new) (N.Bank.cells new.new)) }
-    ensures old_rooted { O.Bank.root old.new ≡ O.Bank.root old.old }
-    ensures new_rooted { N.Bank.root new.new ≡ N.Bank.root new.old }
+    ensures went { Went (λ t. not (source_good t.copied t.new source)) (λ t. second_met t met (record { tag = Unique; address = address }) source) (banks_at (view store.old) (O.cells old.old) (N.cells new.old)) result (banks_at (view store.new) (O.cells old.new) (N.cells new.new)) }
+    ensures old_rooted { O.root old.new ≡ O.root old.old }
+    ensures new_rooted { N.root new.new ≡ N.root new.old }
 {
     let cell = cell_of_source(new, visit.copied, source)?;
     store.turn(Event::Stepped {
@@ -162,11 +162,11 @@ fn follow<V: LeafKind, O: Bank<V>, N: Bank<V>>(
     forward: Reference,
     source: Source,
 ) -> Result<(), Cause>
-    requires visiting { Visiting (view store.old) (N.Bank.cells new.old) visit }
+    requires visiting { Visiting (view store.old) (N.cells new.old) visit }
     requires fits { place_fits visit.place visit.cell ≡ true }
-    ensures went { Went (λ t. forward_spoiled t forward.tag forward source) (λ t. forwarded t met forward.tag forward source) (banks_at (view store.old) (O.Bank.cells old.old) (N.Bank.cells new.old)) result (banks_at (view store.new) (O.Bank.cells old.new) (N.Bank.cells new.new)) }
-    ensures old_rooted { O.Bank.root old.new ≡ O.Bank.root old.old }
-    ensures new_rooted { N.Bank.root new.new ≡ N.Bank.root new.old }
+    ensures went { Went (λ t. forward_spoiled t forward.tag forward source) (λ t. forwarded t met forward.tag forward source) (banks_at (view store.old) (O.cells old.old) (N.cells new.old)) result (banks_at (view store.new) (O.cells old.new) (N.cells new.new)) }
+    ensures old_rooted { O.root old.new ≡ O.root old.old }
+    ensures new_rooted { N.root new.new ≡ N.root new.old }
 {
     if forward.address >= visit.copied {
         return Err(Cause::Spoiled);
@@ -192,11 +192,11 @@ fn meet<V: LeafKind, O: Bank<V>, N: Bank<V>>(
     visit: Visit<V>,
     met: Reference,
 ) -> Result<(), Cause>
-    requires visiting { Visiting (view store.old) (N.Bank.cells new.old) visit }
+    requires visiting { Visiting (view store.old) (N.cells new.old) visit }
     requires fits { place_fits visit.place visit.cell ≡ true }
-    ensures went { Went (λ t. field_spoiled t (To met)) (λ t. met_field t (To met)) (banks_at (view store.old) (O.Bank.cells old.old) (N.Bank.cells new.old)) result (banks_at (view store.new) (O.Bank.cells old.new) (N.Bank.cells new.new)) }
-    ensures old_rooted { O.Bank.root old.new ≡ O.Bank.root old.old }
-    ensures new_rooted { N.Bank.root new.new ≡ N.Bank.root new.old }
+    ensures went { Went (λ t. field_spoiled t (To met)) (λ t. met_field t (To met)) (banks_at (view store.old) (O.cells old.old) (N.cells new.old)) result (banks_at (view store.new) (O.cells old.new) (N.cells new.new)) }
+    ensures old_rooted { O.root old.new ≡ O.root old.old }
+    ensures new_rooted { N.root new.new ≡ N.root new.old }
 {
     if met.address >= store.mark() {
         return Err(Cause::Spoiled);
@@ -220,9 +220,9 @@ fn visit_next<V: LeafKind, O: Bank<V>, N: Bank<V>>(
 ) -> Result<(), Cause>
     requires mode { (view store.old).mode ≡ Collecting steps copied marks }
     requires left { steps < 16 + 2 * copied }
-    ensures went { Went step_spoiled stepped (banks_at (view store.old) (O.Bank.cells old.old) (N.Bank.cells new.old)) result (banks_at (view store.new) (O.Bank.cells old.new) (N.Bank.cells new.new)) }
-    ensures old_rooted { O.Bank.root old.new ≡ O.Bank.root old.old }
-    ensures new_rooted { N.Bank.root new.new ≡ N.Bank.root new.old }
+    ensures went { Went step_spoiled stepped (banks_at (view store.old) (O.cells old.old) (N.cells new.old)) result (banks_at (view store.new) (O.cells old.new) (N.cells new.new)) }
+    ensures old_rooted { O.root old.new ≡ O.root old.old }
+    ensures new_rooted { N.root new.new ≡ N.root new.old }
 {
     let place = place_of(steps);
     let cell = cell_visited(new, place)?;
@@ -249,10 +249,10 @@ pub fn step<V: LeafKind, O: Bank<V>, N: Bank<V>>(
     new: &mut N,
 ) -> Outcome
     requires { is_collecting (view store.old).mode ≡ true }
-    ensures outcome { result ≡ outcome_of (tour_of (banks_at (view store.old) (O.Bank.cells old.old) (N.Bank.cells new.old))) }
-    ensures after { (banks_at (view store.new) (O.Bank.cells old.new) (N.Bank.cells new.new)) ≡ stepped_banks (banks_at (view store.old) (O.Bank.cells old.old) (N.Bank.cells new.old)) }
-    ensures old_rooted { O.Bank.root old.new ≡ O.Bank.root old.old }
-    ensures new_rooted { N.Bank.root new.new ≡ N.Bank.root new.old }
+    ensures outcome { result ≡ outcome_of (tour_of (banks_at (view store.old) (O.cells old.old) (N.cells new.old))) }
+    ensures after { (banks_at (view store.new) (O.cells old.new) (N.cells new.new)) ≡ stepped_banks (banks_at (view store.old) (O.cells old.old) (N.cells new.old)) }
+    ensures old_rooted { O.root old.new ≡ O.root old.old }
+    ensures new_rooted { N.root new.new ≡ N.root new.old }
 {
     let Mode::Collecting {
         steps,

@@ -65,7 +65,7 @@ fn field_of<V: LeafKind>(cell: &Cell<V>, side: Side) -> Field
 
 // The new cell that a place belongs to, or a refusal of one that is neither a pair nor a leaf.
 pub fn cell_visited<V: LeafKind, N: Bank<V>>(new: &N, place: Source) -> Result<Cell<V>, Cause>
-    ensures { result ≡ (if visitable place (cell_at_place (cells new.now) place) then Ok (cell_at_place (cells new.now) place) else Err Spoiled) }
+    ensures { result ≡ (if visitable place (cell_at_place (N.cells new.now) place) then Ok (cell_at_place (N.cells new.now) place) else Err Spoiled) }
 {
     let Source::Cell(at, _) = place else {
         return Ok(Cell::Blank);
@@ -100,8 +100,8 @@ pub fn put_there<V: LeafKind, N: Bank<V>>(
     requires inside { past (view store.old).size field ≡ false }
     requires there { place_fits place cell.now ≡ true }
     ensures model { view store.new ≡ with_hands_at (view store.old) place field }
-    ensures cells { N.Bank.cells new.new ≡ cells_at place field cell.now (N.Bank.cells new.old) }
-    ensures rooted { root new.new ≡ root new.old }
+    ensures cells { N.cells new.new ≡ cells_at place field cell.now (N.cells new.old) }
+    ensures rooted { N.root new.new ≡ N.root new.old }
 {
     match place {
         Source::Nowhere => {}

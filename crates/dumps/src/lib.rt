@@ -1,4 +1,6 @@
 // Cells as lines of text, for people who look into a bank.
+#![tactic(auto)]
+
 ghost use Rattle.std.specs.Prelude.{◌≡◌, IfOk, Some, string_bytes};
 ghost use Rattle.dumps.specs.Shown.{tag_text, reference_text, field_text, side_text, source_text, pair_text, leaf_text, moved_text, CellText, line_of, noted, tally_text};
 

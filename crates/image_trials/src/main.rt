@@ -1,4 +1,6 @@
 // Tries the check of images on lists of cases. A case is a line: the leaf kind, the expected answer, the bytes in hexadecimal.
+#![tactic(auto)]
+
 use cells::Cell;
 use cells::leaves::LeafKind;
 use images::{cell_of, check, diagnose, hand_of_lem, same};

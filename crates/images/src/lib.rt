@@ -1,4 +1,6 @@
 // Images: a settled store as bytes, one string of bytes for each graph.
+#![tactic(auto)]
+
 ghost use Rattle.std.specs.Prelude.{◌≡◌, ◌≤◌, length, drop, Some, None, Ok, Err, Decides};
 ghost use Rattle.graph.specs.Graphs.{Alike};
 ghost use Rattle.images.specs.Images.{HeldImage, Checked, OneReading, hand_of, cell_of, graph_in, Compared};
@@ -35,8 +37,8 @@ fn wrong_heading(kind: u16, wanted: u16, count: u16, size: usize) -> Option<Faul
 
 // The number of cells of an image, or what is wrong with bytes that are none.
 fn examine<V: LeafKind>(image: &[u8]) -> Result<u16, Fault>
-    ensures rules { Examined lawful word taken number image.now result }
-    ensures order { elim result [ Ok _ ↦ first_fault taken number image.now ≡ None | Err fault ↦ first_fault taken number image.now ≡ Some fault ] }
+    ensures rules { Examined V.lawful V.word V.taken V.number image.now result }
+    ensures order { elim result [ Ok _ ↦ first_fault V.taken V.number image.now ≡ None | Err fault ↦ first_fault V.taken V.number image.now ≡ Some fault ] }
 {
     let [k0, k1, r0, r1, rest @ ..] = image else {
         return Err(Fault::TooShort);
@@ -54,8 +56,8 @@ fn examine<V: LeafKind>(image: &[u8]) -> Result<u16, Fault>
 
 // What is wrong first with bytes that are no image of the kind, and nothing where they are one.
 pub fn diagnose<V: LeafKind>(image: &[u8]) -> Option<Fault>
-    ensures first { result ≡ first_fault taken number image.now }
-    ensures rules { Diagnosed lawful word taken number image.now result }
+    ensures first { result ≡ first_fault V.taken V.number image.now }
+    ensures rules { Diagnosed V.lawful V.word V.taken V.number image.now result }
 {
     match examine::<V>(image) {
         Ok(_) => None,
@@ -65,8 +67,8 @@ pub fn diagnose<V: LeafKind>(image: &[u8]) -> Option<Fault>
 
 // The number of cells of an image of the kind, and a refusal of any other bytes.
 pub fn check<V: LeafKind>(image: &[u8]) -> Result<u16, Cause>
-    ensures checked { Checked lawful word number image.now result }
-    ensures holds { elim result [ Ok _ ↦ HeldImage lawful word taken number image.now | Err _ ↦ Unit {0} ] }
+    ensures checked { Checked V.lawful V.word V.number image.now result }
+    ensures holds { elim result [ Ok _ ↦ HeldImage V.lawful V.word V.taken V.number image.now | Err _ ↦ Unit {0} ] }
 {
     match examine::<V>(image) {
         Ok(count) => Ok(count),
@@ -76,9 +78,9 @@ pub fn check<V: LeafKind>(image: &[u8]) -> Result<u16, Cause>
 
 // Whether the graphs of two images are alike, which is whether the bytes are equal.
 fn equal_images<V: LeafKind>(a: &[u8], b: &[u8]) -> bool
-    requires first { HeldImage lawful word taken number a.now }
-    requires second { HeldImage lawful word taken number b.now }
-    ensures alike { Decides result (Alike V.LeafKind.alike (graph_in taken a.now) (graph_in taken b.now)) }
+    requires first { HeldImage V.lawful V.word V.taken V.number a.now }
+    requires second { HeldImage V.lawful V.word V.taken V.number b.now }
+    ensures alike { Decides result (Alike V.alike (graph_in V.taken a.now) (graph_in V.taken b.now)) }
     ensures bytes { Decides result (a.now ≡ b.now) }
 {
     a == b
@@ -86,7 +88,7 @@ fn equal_images<V: LeafKind>(a: &[u8], b: &[u8]) -> bool
 
 // Whether two images are of alike graphs, and a refusal where one of them is none.
 pub fn same<V: LeafKind>(a: &[u8], b: &[u8]) -> Result<bool, Cause>
-    ensures compared { Compared lawful word taken alike number a.now b.now result }
+    ensures compared { Compared V.lawful V.word V.taken V.alike V.number a.now b.now result }
     ensures bytes { elim result [ Ok equal ↦ Decides equal (a.now ≡ b.now) | Err _ ↦ Unit {0} ] }
 {
     let _ = check::<V>(a)?;
@@ -115,7 +117,7 @@ pub fn hand_of_lem(image: &[u8], i: u8) -> Option<Field>
 
 // The cell at an address, none past the last cell or the end of the bytes; a blank cell where the bytes are no cell.
 pub fn cell_of<V: LeafKind>(image: &[u8], at: u16) -> Option<Cell<V>>
-    ensures found { result ≡ cell_of taken image.now at }
+    ensures found { result ≡ cell_of V.taken image.now at }
 {
     let [_, _, r0, r1, ..] = image else {
         return None;
@@ -129,5 +131,5 @@ pub fn cell_of<V: LeafKind>(image: &[u8], at: u16) -> Option<Cell<V>>
 
 // An image has one set of hands and cells, and `hand_of_lem` and `cell_of` find them.
 pub fn image_has_one_reading<V: LeafKind>()
-    ensures { OneReading lawful word taken number }
+    ensures { OneReading V.lawful V.word V.taken V.number }
 {}

@@ -37,10 +37,10 @@ fn hands_at(rest: &[u8]) -> [Field; 16]
 // Puts the cells of an image at the front of the bank.
 fn put_cells<V: LeafKind, B: Bank<V>>(bank: &mut B, rest: &[u8], count: u16)
     requires sized { 64 + 9 * count ≤ length rest.now }
-    requires room { count ≤ length (cells bank.old) }
-    requires storables { (j : ℕ) → j < count → storable V.LeafKind.lawful (stored_cell taken rest.now j) ≡ true }
-    ensures after { cells bank.new ≡ stored_cells taken rest.now count ++ drop count (cells bank.old) }
-    ensures rooted { root bank.new ≡ root bank.old }
+    requires room { count ≤ length (B.cells bank.old) }
+    requires storables { (j : ℕ) → j < count → storable V.lawful (stored_cell V.taken rest.now j) ≡ true }
+    ensures after { B.cells bank.new ≡ stored_cells V.taken rest.now count ++ drop count (B.cells bank.old) }
+    ensures rooted { B.root bank.new ≡ B.root bank.old }
 {
     for at in 0..count {
         let _ = bank.put(at, &cell_at::<V>(rest, at));
@@ -49,9 +49,9 @@ fn put_cells<V: LeafKind, B: Bank<V>>(bank: &mut B, rest: &[u8], count: u16)
 
 // The store that the bytes are the image of, its cells in the bank; or a refusal, and the bank stays as it was.
 pub fn open<V: LeafKind, B: Bank<V>>(bank: &mut B, image: &[u8]) -> Result<Record, Cause>
-    ensures opened { Opened lawful word taken number image.now (cells bank.old) (viewed result) (cells bank.new) }
-    ensures rebuilt { Rebuilt lawful word taken number image.now (cells bank.old) (viewed result) (cells bank.new) }
-    ensures rooted { root bank.new ≡ root bank.old }
+    ensures opened { Opened V.lawful V.word V.taken V.number image.now (B.cells bank.old) (viewed result) (B.cells bank.new) }
+    ensures rebuilt { Rebuilt V.lawful V.word V.taken V.number image.now (B.cells bank.old) (viewed result) (B.cells bank.new) }
+    ensures rooted { B.root bank.new ≡ B.root bank.old }
 {
     let size = bank.size();
     if size == 0 || size > 32768 {
@@ -72,5 +72,5 @@ pub fn open<V: LeafKind, B: Bank<V>>(bank: &mut B, image: &[u8]) -> Result<Recor
 
 // What Open leaves of an image is written as that image.
 pub fn write_after_open<V: LeafKind>()
-    ensures { WrittenBack V.LeafKind.lawful V.LeafKind.word V.LeafKind.taken V.LeafKind.number }
+    ensures { WrittenBack V.lawful V.word V.taken V.number }
 {}

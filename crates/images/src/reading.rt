@@ -16,7 +16,7 @@ pub fn hand_at(rest: &[u8], i: u8) -> Option<Field>
 
 pub fn cell_at<V: LeafKind>(rest: &[u8], j: u16) -> Cell<V>
     requires { 64 + 9 * j + 9 ≤ length rest.now }
-    ensures { result ≡ stored_cell taken rest.now j }
+    ensures { result ≡ stored_cell V.taken rest.now j }
 {
     let p = 64 + 9 * j as usize;
     unpack_cell([

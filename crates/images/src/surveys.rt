@@ -83,9 +83,9 @@ impl Survey {
 fn read_hands<V: LeafKind>(rest: &[u8], count: u16, survey: &mut Survey) -> Option<Flaw>
     requires sized { length rest.now ≡ 64 + 9 * count }
     requires few { count ≤ 32768 }
-    requires fresh { Surveyed (held taken rest.now count) 0 survey.old }
-    ensures kept { ReadTo taken rest.now count 16 survey.new result }
-    ensures flaw { result ≡ first (hand_flaw taken rest.now count) 16 }
+    requires fresh { Surveyed (held V.taken rest.now count) 0 survey.old }
+    ensures kept { ReadTo V.taken rest.now count 16 survey.new result }
+    ensures flaw { result ≡ first (hand_flaw V.taken rest.now count) 16 }
 {
     for i in 0..16 {
         let Some(field) = hand_at(rest, i) else {
@@ -103,9 +103,9 @@ fn read_cell<V: LeafKind>(rest: &[u8], count: u16, j: u16, survey: &mut Survey) 
     requires sized { length rest.now ≡ 64 + 9 * count }
     requires few { count ≤ 32768 }
     requires next { j < count }
-    requires before { ReadTo taken rest.now count (16 + 2 * j) survey.old None }
-    ensures kept { ReadTo taken rest.now count (18 + 2 * j) survey.new result }
-    ensures flaw { result ≡ cell_flaw taken rest.now count j }
+    requires before { ReadTo V.taken rest.now count (16 + 2 * j) survey.old None }
+    ensures kept { ReadTo V.taken rest.now count (18 + 2 * j) survey.new result }
+    ensures flaw { result ≡ cell_flaw V.taken rest.now count j }
 {
     if let Some(flaw) = survey.unmet(j) {
         return Some(flaw);
@@ -126,9 +126,9 @@ fn read_cell<V: LeafKind>(rest: &[u8], count: u16, j: u16, survey: &mut Survey) 
 fn read_cells<V: LeafKind>(rest: &[u8], count: u16, survey: &mut Survey) -> Option<Flaw>
     requires sized { length rest.now ≡ 64 + 9 * count }
     requires few { count ≤ 32768 }
-    requires hands { ReadTo taken rest.now count 16 survey.old None }
-    ensures kept { ReadTo taken rest.now count (16 + 2 * count) survey.new result }
-    ensures flaw { result ≡ first (cell_flaw taken rest.now count) count }
+    requires hands { ReadTo V.taken rest.now count 16 survey.old None }
+    ensures kept { ReadTo V.taken rest.now count (16 + 2 * count) survey.new result }
+    ensures flaw { result ≡ first (cell_flaw V.taken rest.now count) count }
 {
     for j in 0..count {
         if let Some(flaw) = read_cell::<V>(rest, count, j, survey) {
@@ -142,9 +142,9 @@ fn read_cells<V: LeafKind>(rest: &[u8], count: u16, survey: &mut Survey) -> Opti
 fn check_hands<V: LeafKind>(rest: &[u8], count: u16, survey: &Survey) -> Option<Flaw>
     requires sized { length rest.now ≡ 64 + 9 * count }
     requires few { count ≤ 32768 }
-    requires read { ReadTo taken rest.now count (16 + 2 * count) survey.now None }
-    ensures kept { TaggedTo taken rest.now count 16 result }
-    ensures flaw { result ≡ first (hand_tag taken rest.now count) 16 }
+    requires read { ReadTo V.taken rest.now count (16 + 2 * count) survey.now None }
+    ensures kept { TaggedTo V.taken rest.now count 16 result }
+    ensures flaw { result ≡ first (hand_tag V.taken rest.now count) 16 }
 {
     for i in 0..16 {
         if let Some(field) = hand_at(rest, i) {
@@ -161,10 +161,10 @@ fn check_cell<V: LeafKind>(rest: &[u8], count: u16, j: u16, survey: &Survey) -> 
     requires sized { length rest.now ≡ 64 + 9 * count }
     requires few { count ≤ 32768 }
     requires next { j < count }
-    requires read { ReadTo taken rest.now count (16 + 2 * count) survey.now None }
-    requires before { TaggedTo taken rest.now count (16 + 2 * j) None }
-    ensures kept { TaggedTo taken rest.now count (18 + 2 * j) result }
-    ensures flaw { result ≡ cell_tags taken rest.now count j }
+    requires read { ReadTo V.taken rest.now count (16 + 2 * count) survey.now None }
+    requires before { TaggedTo V.taken rest.now count (16 + 2 * j) None }
+    ensures kept { TaggedTo V.taken rest.now count (18 + 2 * j) result }
+    ensures flaw { result ≡ cell_tags V.taken rest.now count j }
 {
     let Cell::Pair { left, right } = cell_at::<V>(rest, j) else {
         return None;
@@ -179,10 +179,10 @@ fn check_cell<V: LeafKind>(rest: &[u8], count: u16, j: u16, survey: &Survey) -> 
 fn check_cells<V: LeafKind>(rest: &[u8], count: u16, survey: &Survey) -> Option<Flaw>
     requires sized { length rest.now ≡ 64 + 9 * count }
     requires few { count ≤ 32768 }
-    requires read { ReadTo taken rest.now count (16 + 2 * count) survey.now None }
-    requires hands { TaggedTo taken rest.now count 16 None }
-    ensures kept { TaggedTo taken rest.now count (16 + 2 * count) result }
-    ensures flaw { result ≡ first (cell_tags taken rest.now count) count }
+    requires read { ReadTo V.taken rest.now count (16 + 2 * count) survey.now None }
+    requires hands { TaggedTo V.taken rest.now count 16 None }
+    ensures kept { TaggedTo V.taken rest.now count (16 + 2 * count) result }
+    ensures flaw { result ≡ first (cell_tags V.taken rest.now count) count }
 {
     for j in 0..count {
         if let Some(flaw) = check_cell::<V>(rest, count, j, survey) {
@@ -196,8 +196,8 @@ fn check_cells<V: LeafKind>(rest: &[u8], count: u16, survey: &Survey) -> Option<
 pub fn first_flaw<V: LeafKind>(rest: &[u8], count: u16) -> Option<Flaw>
     requires sized { length rest.now ≡ 64 + 9 * count }
     requires few { count ≤ 32768 }
-    ensures kept { Surveys taken rest.now count result }
-    ensures flaw { result ≡ first_flaw taken rest.now count }
+    ensures kept { Surveys V.taken rest.now count result }
+    ensures flaw { result ≡ first_flaw V.taken rest.now count }
 {
     let mut survey = Survey {
         met: 0,

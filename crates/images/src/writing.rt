@@ -26,8 +26,8 @@ fn is_node<V: LeafKind>(cell: &Cell<V>) -> bool
 
 // Whether each of the first `count` cells is a pair or a leaf.
 fn all_nodes<V: LeafKind, B: Bank<V>>(bank: &B, count: u16) -> bool
-    requires { count ≤ length (cells bank.now) }
-    ensures { result ≡ all_nodes (take count (cells bank.now)) }
+    requires { count ≤ length (B.cells bank.now) }
+    ensures { result ≡ all_nodes (take count (B.cells bank.now)) }
 {
     for at in 0..count {
         let Some(cell) = bank.read(at) else {
@@ -50,7 +50,7 @@ fn write_part(bytes: &mut [u8], at: usize, part: &[u8])
 
 fn write_heading<V: LeafKind>(bytes: &mut [u8], count: u16)
     requires { 4 ≤ length bytes.old }
-    ensures { bytes.new ≡ pasted bytes.old 0 (two_bytes number ++ two_bytes count) }
+    ensures { bytes.new ≡ pasted bytes.old 0 (two_bytes V.number ++ two_bytes count) }
 {
     let [k0, k1] = V::kind_number().to_be_bytes();
     let [r0, r1] = count.to_be_bytes();
@@ -67,9 +67,9 @@ fn write_hands(hands: &[Field; 16], bytes: &mut [u8])
 }
 
 fn write_cells<V: LeafKind, B: Bank<V>>(bank: &B, count: u16, bytes: &mut [u8])
-    requires held { count ≤ length (cells bank.now) }
+    requires held { count ≤ length (B.cells bank.now) }
     requires room { length_for count ≤ length bytes.old }
-    ensures { bytes.new ≡ pasted bytes.old 68 (flat_map (pack_cell lawful word) (take count (cells bank.now))) }
+    ensures { bytes.new ≡ pasted bytes.old 68 (flat_map (pack_cell V.lawful V.word) (take count (B.cells bank.now))) }
 {
     for at in 0..count {
         if let Some(cell) = bank.read(at) {
@@ -80,7 +80,7 @@ fn write_cells<V: LeafKind, B: Bank<V>>(bank: &B, count: u16, bytes: &mut [u8])
 
 // Why the image of the store cannot be written to so many bytes, if it cannot.
 fn refusal<V: LeafKind, B: Bank<V>>(record: &Record, bank: &B, space: usize) -> Option<Cause>
-    ensures { result ≡ write_cause (view «record».now) (cells bank.now) space }
+    ensures { result ≡ write_cause (view «record».now) (B.cells bank.now) space }
 {
     if bank.size() != record.size() as usize {
         return Some(Cause::OtherSize);
@@ -113,8 +113,8 @@ pub fn write<V: LeafKind, B: Bank<V>>(
     bank: &B,
     bytes: &mut [u8],
 ) -> Result<usize, Cause>
-    ensures answer { result ≡ write_answer (view «record».now) (cells bank.now) (length bytes.old) }
-    ensures after { bytes.new ≡ bytes_after lawful word number (view «record».now) (cells bank.now) bytes.old }
+    ensures answer { result ≡ write_answer (view «record».now) (B.cells bank.now) (length bytes.old) }
+    ensures after { bytes.new ≡ bytes_after V.lawful V.word V.number (view «record».now) (B.cells bank.now) bytes.old }
 {
     if let Some(cause) = refusal::<V, B>(record, bank, bytes.len()) {
         return Err(cause);

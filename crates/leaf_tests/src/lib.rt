@@ -1,4 +1,6 @@
 // Examples of the two leaf kinds.
+#![tactic(auto)]
+
 #[cfg(test)]
 mod tests {
     use cells::causes::Cause;

@@ -1,4 +1,6 @@
 // Runs cases with known answers through the reading of leaf values: `KIND | VALUE as typed | refused 6 or its word`.
+#![tactic(auto)]
+
 use cells::causes::Cause;
 use cells::leaves::LeafKind;
 use kinds::instructions::Instruction;

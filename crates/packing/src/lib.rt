@@ -1,5 +1,7 @@
 // A field as a word of 32 bits, a cell as nine bytes, and back. Whatever is packed unpacks to itself, and nothing but its
 // packing unpacks to it: every reserved bit is checked.
+#![tactic(auto)]
+
 ghost use Rattle.std.specs.Prelude.{◌≡◌, true, false, is_some, Some, None, ◌≢◌, slice_index};
 ghost use Rattle.cells.specs.declared.Cell.TheVariants.{Blank};
 ghost use Rattle.cells.specs.Banks.{leaf_lawful};
@@ -133,7 +135,7 @@ fn join(upper: u32, lower: u32) -> u64
 
 // The kind's byte and the body of a cell. A leaf that is not lawful has no word, and goes as a blank cell.
 fn kind_and_body<V: LeafKind>(c: &Cell<V>) -> (u8, u64)
-    ensures parted { result ≡ kind_and_body lawful word c.now }
+    ensures parted { result ≡ kind_and_body V.lawful V.word c.now }
     ensures fits { cell_fits c.now ≡ true }
 {
     match *c {
@@ -160,11 +162,11 @@ fn nine_bytes(kind: u8, body: u64) -> [u8; 9]
 // The nine bytes of a cell. `fits` holds of every cell in code. The bytes of a lawful cell give it `back`, and are its
 // `alone`; a leaf that is not lawful is `lost`, and unpacks to a blank cell.
 pub fn pack_cell<V: LeafKind>(c: &Cell<V>) -> [u8; 9]
-    ensures packed { result ≡ pack_cell lawful word c.now }
+    ensures packed { result ≡ pack_cell V.lawful V.word c.now }
     ensures fits { cell_fits c.now ≡ true }
-    ensures back { leaf_lawful lawful c.now ≡ true → unpack_cell taken result ≡ c.now }
-    ensures lost { leaf_lawful lawful c.now ≡ false → unpack_cell taken result ≡ Blank }
-    ensures alone { Alone lawful word c.now result }
+    ensures back { leaf_lawful V.lawful c.now ≡ true → unpack_cell V.taken result ≡ c.now }
+    ensures lost { leaf_lawful V.lawful c.now ≡ false → unpack_cell V.taken result ≡ Blank }
+    ensures alone { Alone V.lawful V.word c.now result }
 {
     let (kind, body) = kind_and_body(c);
     nine_bytes(kind, body)
@@ -172,7 +174,7 @@ pub fn pack_cell<V: LeafKind>(c: &Cell<V>) -> [u8; 9]
 
 // The cell of a kind's byte and a body.
 fn cell_of<V: LeafKind>(kind: u8, body: u64) -> Cell<V>
-    ensures { result ≡ cell_of taken kind body }
+    ensures { result ≡ cell_of V.taken kind body }
 {
     let upper = (body / 0x1_0000_0000) as u32;
     let lower = (body % 0x1_0000_0000) as u32;
@@ -206,9 +208,9 @@ fn split_bytes(bytes: [u8; 9]) -> (u8, u64)
 
 // The cell that nine bytes hold. Bytes that fit no kind are a blank cell.
 pub fn unpack_cell<V: LeafKind>(bytes: [u8; 9]) -> Cell<V>
-    ensures unpacked { result ≡ unpack_cell taken bytes }
-    ensures only { (result ≢ Blank) → pack_cell lawful word result ≡ bytes }
-    ensures leaf { leaf_lawful lawful result ≡ true }
+    ensures unpacked { result ≡ unpack_cell V.taken bytes }
+    ensures only { (result ≢ Blank) → pack_cell V.lawful V.word result ≡ bytes }
+    ensures leaf { leaf_lawful V.lawful result ≡ true }
     ensures fits { cell_fits result ≡ true }
 {
     let (kind, body) = split_bytes(bytes);

@@ -43,8 +43,8 @@ fn hand_apart(a: &[u8], b: &[u8]) -> Option<u8>
 
 // Whether two cells with lawful leaves are equal.
 fn same_cell<V: LeafKind>(x: Cell<V>, y: Cell<V>) -> bool
-    requires left { leaf_lawful lawful x ≡ true }
-    requires right { leaf_lawful lawful y ≡ true }
+    requires left { leaf_lawful V.lawful x ≡ true }
+    requires right { leaf_lawful V.lawful y ≡ true }
     ensures { Decides result (x ≡ y) }
 {
     match (x, y) {
@@ -64,8 +64,8 @@ fn same_cell<V: LeafKind>(x: Cell<V>, y: Cell<V>) -> bool
 
 // The same of cells that may be missing.
 fn same_found<V: LeafKind>(x: Option<Cell<V>>, y: Option<Cell<V>>) -> bool
-    requires left { found_lawful lawful x ≡ true }
-    requires right { found_lawful lawful y ≡ true }
+    requires left { found_lawful V.lawful x ≡ true }
+    requires right { found_lawful V.lawful y ≡ true }
     ensures { Decides result (x ≡ y) }
 {
     match (x, y) {
@@ -76,7 +76,7 @@ fn same_found<V: LeafKind>(x: Option<Cell<V>>, y: Option<Cell<V>>) -> bool
 }
 
 fn cell_apart<V: LeafKind>(a: &[u8], b: &[u8]) -> Option<u16>
-    ensures { FirstApart (cell_of taken a.now) (cell_of taken b.now) 65536 result }
+    ensures { FirstApart (cell_of V.taken a.now) (cell_of V.taken b.now) 65536 result }
 {
     for at in 0..=u16::MAX {
         if !same_found(cell_of::<V>(a, at), cell_of::<V>(b, at)) {
@@ -88,7 +88,7 @@ fn cell_apart<V: LeafKind>(a: &[u8], b: &[u8]) -> Option<u16>
 
 // Where two images first differ, and none where they hold the same hands and cells.
 pub fn first_difference<V: LeafKind>(a: &[u8], b: &[u8]) -> Option<Difference>
-    ensures { Differs taken a.now b.now result }
+    ensures { Differs V.taken a.now b.now result }
 {
     if let Some(i) = hand_apart(a, b) {
         return Some(Difference::Hand(i));

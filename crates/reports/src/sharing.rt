@@ -59,7 +59,7 @@ impl Shared {
 
 // The shared cells among the first cells of an image.
 pub fn shared_cells<V: LeafKind>(image: &[u8], count: u16) -> Shared
-    ensures { result.marks ≡ marked_cells taken image.now count }
+    ensures { result.marks ≡ marked_cells V.taken image.now count }
 {
     let mut shared = Shared {
         marks: [false; 32768],

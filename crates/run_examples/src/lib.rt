@@ -1,4 +1,6 @@
 // Runs with the answers and the image that the definitions must give for them.
+#![tactic(auto)]
+
 ghost use Rattle.std.specs.Prelude.{◌≡◌};
 ghost use Rattle.run_examples.specs.Longer.{longer, computed_longer};
 ghost use Rattle.run_examples.specs.Rows.{table, computed_table};

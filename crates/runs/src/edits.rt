@@ -36,8 +36,8 @@ pub fn edit<V: LeafKind, W: Bank<V>>(
     working: &mut W,
     call: Edit<V>,
 ) -> Result<Answer<V>, Cause>
-    ensures edited { Edited tidied call (view store.old) (cells working.old) result (view store.new) (cells working.new) }
-    ensures rooted { root working.new ≡ root working.old }
+    ensures edited { Edited V.tidied call (view store.old) (W.cells working.old) result (view store.new) (W.cells working.new) }
+    ensures rooted { W.root working.new ≡ W.root working.old }
 {
     match call {
         Edit::Pair { h } => done(store.pair(working, h)),

@@ -20,9 +20,9 @@ fn play<V: LeafKind, A: Bank<V>, B: Bank<V>>(
     answers: &mut Vec<Result<Answer<V>, Cause>>,
 )
     requires { vec_len answers.old + length script.now ≤ vec_capacity answers.old }
-    ensures answers { map said_by answers.new.items ≡ map said_by answers.old.items ++ answers_of V.LeafKind.tidied (world_at (banks_of A.Bank.cells B.Bank.cells rig.old)) script.now }
-    ensures after { banks_of A.Bank.cells B.Bank.cells rig.new ≡ (run V.LeafKind.tidied (world_at (banks_of A.Bank.cells B.Bank.cells rig.old)) (events_of V.LeafKind.tidied (world_at (banks_of A.Bank.cells B.Bank.cells rig.old)) script.now)).banks }
-    ensures fits { Fits (banks_of A.Bank.cells B.Bank.cells rig.old) → Fits (banks_of A.Bank.cells B.Bank.cells rig.new) }
+    ensures answers { map said_by answers.new.items ≡ map said_by answers.old.items ++ answers_of V.tidied (world_at (banks_of A.cells B.cells rig.old)) script.now }
+    ensures after { banks_of A.cells B.cells rig.new ≡ (run V.tidied (world_at (banks_of A.cells B.cells rig.old)) (events_of V.tidied (world_at (banks_of A.cells B.cells rig.old)) script.now)).banks }
+    ensures fits { Fits (banks_of A.cells B.cells rig.old) → Fits (banks_of A.cells B.cells rig.new) }
 {
     for call in script {
         let answer = rig.call(*call);
@@ -44,9 +44,9 @@ pub fn replay<V: LeafKind, A: Bank<V> + Drop, B: Bank<V> + Drop>(
     second: B,
     script: &[Call<V>],
 ) -> Result<(Rig<A, B>, Vec<Result<Answer<V>, Cause>>), Unplayed>
-    ensures replayed { elim result [ Ok p ↦ Replayed V.LeafKind.tidied (A.Bank.cells first) (B.Bank.cells second) script.now p.1.items (banks_of A.Bank.cells B.Bank.cells p.0) | Err e ↦ unplayed (length (A.Bank.cells first)) e ] }
-    ensures fits { elim result [ Ok p ↦ Fits (banks_of A.Bank.cells B.Bank.cells p.0) | Err e ↦ Unit {0} ] }
-    ensures law { LawOverRuns V.LeafKind.tidied V.LeafKind.alike }
+    ensures replayed { elim result [ Ok p ↦ Replayed V.tidied (A.cells first) (B.cells second) script.now p.1.items (banks_of A.cells B.cells p.0) | Err e ↦ unplayed (length (A.cells first)) e ] }
+    ensures fits { elim result [ Ok p ↦ Fits (banks_of A.cells B.cells p.0) | Err e ↦ Unit {0} ] }
+    ensures law { LawOverRuns V.tidied V.alike }
 {
     let Ok(mut answers) = Vec::with_capacity(heap, script.len()) else {
         return Err(Unplayed::Memory);

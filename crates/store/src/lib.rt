@@ -1,4 +1,6 @@
 // The store's record and what its calls mean. No call can be made yet: the parts below are not reachable from outside.
+#![tactic(auto)]
+
 mod free;
 mod hands;
 pub mod record;

@@ -20,7 +20,7 @@ pub struct Entry<V> {
 
 // Whether both values are accepted and alike.
 fn same_value<V: LeafKind>(a: Result<V, Cause>, b: Result<V, Cause>) -> bool
-    ensures { result ≡ same_value tidied alike a b }
+    ensures { result ≡ same_value V.tidied V.alike a b }
 {
     match (a, b) {
         (Ok(x), Ok(y)) => match compare(x, y) {
@@ -33,7 +33,7 @@ fn same_value<V: LeafKind>(a: Result<V, Cause>, b: Result<V, Cause>) -> bool
 
 // Where two lists first differ, value by value; none where they hold the same values.
 pub fn first_difference<V: LeafKind>(a: &[Entry<V>], b: &[Entry<V>]) -> Option<usize>
-    ensures { FirstDifference tidied alike a.now b.now result }
+    ensures { FirstDifference V.tidied V.alike a.now b.now result }
 {
     let both = a.len().min(b.len());
     for i in 0..both {

@@ -1,4 +1,6 @@
 // Makes the commands of a text, one to a line, as the program makes them, and prints the status of each.
+#![tactic(auto)]
+
 use std::alloc::AllocError;
 use std::fs;
 

@@ -36,8 +36,8 @@ impl Keeper {
         working: &mut W,
         call: Edit<V>,
     ) -> Result<Answer<V>, Cause>
-        ensures edited { Edited tidied call (view self.old.store) (cells working.old) result (view self.new.store) (cells working.new) }
-        ensures rooted { root working.new ≡ root working.old }
+        ensures edited { Edited V.tidied call (view self.old.store) (W.cells working.old) result (view self.new.store) (W.cells working.new) }
+        ensures rooted { W.root working.new ≡ W.root working.old }
     {
         edit(&mut self.store, working, call)
     }
@@ -47,7 +47,7 @@ impl Keeper {
         working: &O,
         spare: &N,
     ) -> Result<Answer<V>, Cause>
-        ensures { Acts (begin (N.Bank.cells spare.now)) (banks_at (view self.old.store) (O.Bank.cells working.now) (N.Bank.cells spare.now)) result (banks_at (view self.new.store) (O.Bank.cells working.now) (N.Bank.cells spare.now)) }
+        ensures { Acts (begin (N.cells spare.now)) (banks_at (view self.old.store) (O.cells working.now) (N.cells spare.now)) result (banks_at (view self.new.store) (O.cells working.now) (N.cells spare.now)) }
     {
         let ticket = begin(&mut self.store, working, spare)?;
         match replace(&mut self.ticket, Some(ticket)) {
@@ -76,9 +76,9 @@ impl Keeper {
         new: &mut N,
         budget: u32,
     ) -> Result<Answer<V>, Cause>
-        ensures acts { Acts (slice budget) (banks_at (view self.old.store) (O.Bank.cells old.old) (N.Bank.cells new.old)) result (banks_at (view self.new.store) (O.Bank.cells old.new) (N.Bank.cells new.new)) }
-        ensures old_rooted { O.Bank.root old.new ≡ O.Bank.root old.old }
-        ensures new_rooted { N.Bank.root new.new ≡ N.Bank.root new.old }
+        ensures acts { Acts (slice budget) (banks_at (view self.old.store) (O.cells old.old) (N.cells new.old)) result (banks_at (view self.new.store) (O.cells old.new) (N.cells new.new)) }
+        ensures old_rooted { O.root old.new ≡ O.root old.old }
+        ensures new_rooted { N.root new.new ≡ N.root new.old }
     {
         let Some(ticket) = &self.ticket else {
             return Err(idle_cause(&self.store, old.size(), new.size()));
@@ -94,9 +94,9 @@ impl Keeper {
         old: &mut O,
         new: &mut N,
     ) -> Result<Answer<V>, Cause>
-        ensures acts { Acts finish (banks_at (view self.old.store) (O.Bank.cells old.old) (N.Bank.cells new.old)) result (exchanged_if (is_ok result) (view self.new.store) (O.Bank.cells old.new) (N.Bank.cells new.new)) }
-        ensures old_rooted { O.Bank.root old.new ≡ O.Bank.root old.old }
-        ensures new_rooted { N.Bank.root new.new ≡ N.Bank.root new.old }
+        ensures acts { Acts finish (banks_at (view self.old.store) (O.cells old.old) (N.cells new.old)) result (exchanged_if (is_ok result) (view self.new.store) (O.cells old.new) (N.cells new.new)) }
+        ensures old_rooted { O.root old.new ≡ O.root old.old }
+        ensures new_rooted { N.root new.new ≡ N.root new.old }
     {
         let Some(ticket) = replace(&mut self.ticket, None) else {
             return Err(idle_cause(&self.store, old.size(), new.size()));
@@ -111,7 +111,7 @@ impl Keeper {
     }
 
     pub fn abandon<V: LeafKind, O: Bank<V>>(&mut self, old: &O) -> Result<Answer<V>, Cause>
-        ensures { (fresh : List (Cell V)) → Acts abandon (banks_at (view self.old.store) (cells old.now) fresh) result (banks_at (view self.new.store) (cells old.now) fresh) }
+        ensures { (fresh : List (Cell V)) → Acts abandon (banks_at (view self.old.store) (O.cells old.now) fresh) result (banks_at (view self.new.store) (O.cells old.now) fresh) }
     {
         let Some(ticket) = replace(&mut self.ticket, None) else {
             return Err(idle_cause(&self.store, old.size(), old.size()));
@@ -131,8 +131,8 @@ impl Keeper {
         working: &mut W,
         image: &[u8],
     ) -> Result<(), Cause>
-        ensures replaced { (fresh : List (Cell V)) → Replaced (Opened V.LeafKind.lawful V.LeafKind.word V.LeafKind.taken V.LeafKind.number image.now) (banks_at (view self.old.store) (cells working.old) fresh) result (banks_at (view self.new.store) (cells working.new) fresh) }
-        ensures rooted { root working.new ≡ root working.old }
+        ensures replaced { (fresh : List (Cell V)) → Replaced (Opened V.lawful V.word V.taken V.number image.now) (banks_at (view self.old.store) (W.cells working.old) fresh) result (banks_at (view self.new.store) (W.cells working.new) fresh) }
+        ensures rooted { W.root working.new ≡ W.root working.old }
     {
         if self.ticket.is_some() {
             return Err(Cause::Collecting);
@@ -146,8 +146,8 @@ impl Keeper {
         working: &W,
         bytes: &mut [u8],
     ) -> Result<usize, Cause>
-        ensures answer { result ≡ write_answer (view self.now.store) (cells working.now) (length bytes.old) }
-        ensures after { bytes.new ≡ bytes_after lawful word number (view self.now.store) (cells working.now) bytes.old }
+        ensures answer { result ≡ write_answer (view self.now.store) (W.cells working.now) (length bytes.old) }
+        ensures after { bytes.new ≡ bytes_after V.lawful V.word V.number (view self.now.store) (W.cells working.now) bytes.old }
     {
         write(&self.store, working, bytes)
     }
@@ -160,7 +160,7 @@ impl Keeper {
 
     // Gives the store up; a collection that is under way is abandoned.
     pub fn end<V: LeafKind, W: Bank<V>>(self, working: &W)
-        requires { length (cells working.now) ≡ (view self.store).size }
+        requires { length (W.cells working.now) ≡ (view self.store).size }
     {
         let Keeper { mut store, ticket } = self;
         if let Some(ticket) = ticket {

@@ -32,9 +32,9 @@ fn make<V: LeafKind, O: Bank<V>, N: Bank<V>>(
     new: &mut N,
     call: Call<V>,
 ) -> Result<Answer<V>, Cause>
-    ensures made { Made tidied call (banks_at (view keeper.old.store) (O.Bank.cells old.old) (N.Bank.cells new.old)) result (exchanged_if (exchanges call result) (view keeper.new.store) (O.Bank.cells old.new) (N.Bank.cells new.new)) }
-    ensures old_rooted { O.Bank.root old.new ≡ O.Bank.root old.old }
-    ensures new_rooted { N.Bank.root new.new ≡ N.Bank.root new.old }
+    ensures made { Made V.tidied call (banks_at (view keeper.old.store) (O.cells old.old) (N.cells new.old)) result (exchanged_if (exchanges call result) (view keeper.new.store) (O.cells old.new) (N.cells new.new)) }
+    ensures old_rooted { O.root old.new ≡ O.root old.old }
+    ensures new_rooted { N.root new.new ≡ N.root new.old }
 {
     match call {
         Call::Edit(edit) => keeper.edit(old, edit),
@@ -68,9 +68,9 @@ impl<A, B> Rig<A, B> {
     where
         A: Bank<V>,
         B: Bank<V>,
-        ensures made { Made tidied call (banks_of A.Bank.cells B.Bank.cells self.old) result (banks_of A.Bank.cells B.Bank.cells self.new) }
+        ensures made { Made V.tidied call (banks_of A.Bank.cells B.Bank.cells self.old) result (banks_of A.Bank.cells B.Bank.cells self.new) }
         ensures fits { Fits (banks_of A.Bank.cells B.Bank.cells self.old) → Fits (banks_of A.Bank.cells B.Bank.cells self.new) }
-        ensures law { LawOverRuns V.LeafKind.tidied V.LeafKind.alike }
+        ensures law { LawOverRuns V.tidied V.alike }
     {
         self.made(call)
     }
@@ -79,7 +79,7 @@ impl<A, B> Rig<A, B> {
     where
         A: Bank<V>,
         B: Bank<V>,
-        ensures made { Made tidied call (banks_of A.Bank.cells B.Bank.cells self.old) result (banks_of A.Bank.cells B.Bank.cells self.new) }
+        ensures made { Made V.tidied call (banks_of A.Bank.cells B.Bank.cells self.old) result (banks_of A.Bank.cells B.Bank.cells self.new) }
     {
         let answer = if self.turned {
             make(&mut self.keeper, &mut self.second, &mut self.first, call)
@@ -97,7 +97,7 @@ impl<A, B> Rig<A, B> {
     where
         A: Bank<V>,
         B: Bank<V>,
-        ensures replaced { Replaced (Opened V.LeafKind.lawful V.LeafKind.word V.LeafKind.taken V.LeafKind.number image.now) (banks_of A.Bank.cells B.Bank.cells self.old) result (banks_of A.Bank.cells B.Bank.cells self.new) }
+        ensures replaced { Replaced (Opened V.lawful V.word V.taken V.number image.now) (banks_of A.Bank.cells B.Bank.cells self.old) result (banks_of A.Bank.cells B.Bank.cells self.new) }
         ensures fits { Fits (banks_of A.Bank.cells B.Bank.cells self.old) → Fits (banks_of A.Bank.cells B.Bank.cells self.new) }
     {
         self.opened(image)
@@ -107,7 +107,7 @@ impl<A, B> Rig<A, B> {
     where
         A: Bank<V>,
         B: Bank<V>,
-        ensures { Replaced (Opened V.LeafKind.lawful V.LeafKind.word V.LeafKind.taken V.LeafKind.number image.now) (banks_of A.Bank.cells B.Bank.cells self.old) result (banks_of A.Bank.cells B.Bank.cells self.new) }
+        ensures { Replaced (Opened V.lawful V.word V.taken V.number image.now) (banks_of A.Bank.cells B.Bank.cells self.old) result (banks_of A.Bank.cells B.Bank.cells self.new) }
     {
         if self.turned {
             self.keeper.open::<V, B>(&mut self.second, image)
@@ -122,7 +122,7 @@ impl<A, B> Rig<A, B> {
         A: Bank<V>,
         B: Bank<V>,
         ensures answer { result ≡ write_answer (banks_of A.Bank.cells B.Bank.cells self.now).model (banks_of A.Bank.cells B.Bank.cells self.now).cells (length bytes.old) }
-        ensures after { bytes.new ≡ bytes_after lawful word number (banks_of A.Bank.cells B.Bank.cells self.now).model (banks_of A.Bank.cells B.Bank.cells self.now).cells bytes.old }
+        ensures after { bytes.new ≡ bytes_after V.lawful V.word V.number (banks_of A.Bank.cells B.Bank.cells self.now).model (banks_of A.Bank.cells B.Bank.cells self.now).cells bytes.old }
     {
         if self.turned {
             self.keeper.write::<V, B>(&self.second, bytes)

@@ -16,8 +16,8 @@ use cells::{Cell, Field, Side};
 impl Record {
     // A new pair with two nil sides in hand h.
     pub fn pair<V: LeafKind, B: Bank<V>>(&mut self, bank: &mut B, h: u16) -> Result<(), Cause>
-        ensures called { Called tidied (pair h) (view self.old) (cells bank.old) (told result) (view self.new) (cells bank.new) }
-        ensures rooted { root bank.new ≡ root bank.old }
+        ensures called { Called V.tidied (pair h) (view self.old) (B.cells bank.old) (told result) (view self.new) (B.cells bank.new) }
+        ensures rooted { B.root bank.new ≡ B.root bank.old }
     {
         self.admit(bank.size(), h, h)?;
         self.place(
@@ -37,8 +37,8 @@ impl Record {
         h: u16,
         value: V,
     ) -> Result<(), Cause>
-        ensures called { Called tidied (leaf h value) (view self.old) (cells bank.old) (told result) (view self.new) (cells bank.new) }
-        ensures rooted { root bank.new ≡ root bank.old }
+        ensures called { Called V.tidied (leaf h value) (view self.old) (B.cells bank.old) (told result) (view self.new) (B.cells bank.new) }
+        ensures rooted { B.root bank.new ≡ B.root bank.old }
     {
         self.admit(bank.size(), h, h)?;
         let tidy = value.tidy()?;
@@ -47,7 +47,7 @@ impl Record {
 
     // Hand h gets what hand g holds, and both are STICKY then.
     pub fn copy<V: LeafKind, B: Bank<V>>(&mut self, bank: &B, h: u16, g: u16) -> Result<(), Cause>
-        ensures called { Called tidied (copy h g) (view self.old) (cells bank.now) (told result) (view self.new) (cells bank.now) }
+        ensures called { Called V.tidied (copy h g) (view self.old) (B.cells bank.now) (told result) (view self.new) (B.cells bank.now) }
     {
         self.admit(bank.size(), h, g)?;
         if h == g {
@@ -70,8 +70,8 @@ impl Record {
         g: u16,
         side: Side,
     ) -> Result<(), Cause>
-        ensures called { Called tidied (load h g side) (view self.old) (cells bank.old) (told result) (view self.new) (cells bank.new) }
-        ensures rooted { root bank.new ≡ root bank.old }
+        ensures called { Called V.tidied (load h g side) (view self.old) (B.cells bank.old) (told result) (view self.new) (B.cells bank.new) }
+        ensures rooted { B.root bank.new ≡ B.root bank.old }
     {
         self.admit(bank.size(), h, g)?;
         let target = self.target(bank, g)?;
@@ -95,8 +95,8 @@ impl Record {
         side: Side,
         h: u16,
     ) -> Result<(), Cause>
-        ensures called { Called tidied (store g side h) (view self.old) (cells bank.old) (told result) (view self.new) (cells bank.new) }
-        ensures rooted { root bank.new ≡ root bank.old }
+        ensures called { Called V.tidied (store g side h) (view self.old) (B.cells bank.old) (told result) (view self.new) (B.cells bank.new) }
+        ensures rooted { B.root bank.new ≡ B.root bank.old }
     {
         self.admit(bank.size(), h, g)?;
         let target = self.target(bank, g)?;
@@ -115,8 +115,8 @@ impl Record {
         side: Side,
         h: u16,
     ) -> Result<(), Cause>
-        ensures called { Called tidied (swap g side h) (view self.old) (cells bank.old) (told result) (view self.new) (cells bank.new) }
-        ensures rooted { root bank.new ≡ root bank.old }
+        ensures called { Called V.tidied (swap g side h) (view self.old) (B.cells bank.old) (told result) (view self.new) (B.cells bank.new) }
+        ensures rooted { B.root bank.new ≡ B.root bank.old }
     {
         self.admit(bank.size(), h, g)?;
         let target = self.target(bank, g)?;
@@ -132,7 +132,7 @@ impl Record {
 
     // Hand h becomes nil.
     pub fn clear<V: LeafKind, B: Bank<V>>(&mut self, bank: &B, h: u16) -> Result<(), Cause>
-        ensures called { Called tidied (clear h) (view self.old) (cells bank.now) (told result) (view self.new) (cells bank.now) }
+        ensures called { Called V.tidied (clear h) (view self.old) (B.cells bank.now) (told result) (view self.new) (B.cells bank.now) }
     {
         self.admit(bank.size(), h, h)?;
         let held = self.hand(h);
@@ -143,7 +143,7 @@ impl Record {
 
     // What hand h shows.
     pub fn look<V: LeafKind, B: Bank<V>>(&self, bank: &B, h: u16) -> Result<Sight<V>, Cause>
-        ensures called { Called tidied (look h) (view self.now) (cells bank.now) (seen result) (view self.now) (cells bank.now) }
+        ensures called { Called V.tidied (look h) (view self.now) (B.cells bank.now) (seen result) (view self.now) (B.cells bank.now) }
     {
         self.admit(bank.size(), h, h)?;
         let Field::To(r) = self.hand(h) else {

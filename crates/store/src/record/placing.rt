@@ -56,8 +56,8 @@ impl Record {
     // Takes the top of the list, and lets go of what a pair in that cell held; or the mark, where nothing is listed.
     fn take<V: LeafKind, B: Bank<V>>(&mut self, bank: &B) -> u16
         requires { roomy (view self.old) ≡ true }
-        ensures address { result ≡ (taking (cells bank.now) (view self.old).mark (view self.old).free).address }
-        ensures after { view self.new ≡ taken_model (view self.old) (taking (cells bank.now) (view self.old).mark (view self.old).free) }
+        ensures address { result ≡ (taking (B.cells bank.now) (view self.old).mark (view self.old).free).address }
+        ensures after { view self.new ≡ taken_model (view self.old) (taking (B.cells bank.now) (view self.old).mark (view self.old).free) }
         ensures inside { result < (view self.old).size }
     {
         let Some(at) = self.take_top() else {
@@ -79,10 +79,10 @@ impl Record {
         h: u16,
         cell: &Cell<V>,
     ) -> Result<(), Cause>
-        requires { storable V.LeafKind.lawful cell.now ≡ true }
+        requires { storable V.lawful cell.now ≡ true }
         ensures answer { result ≡ place_answer (view self.old) h }
-        ensures after { state_at (view self.new) (cells bank.new) ≡ placed_state (view self.old) (cells bank.old) h cell.now }
-        ensures rooted { root bank.new ≡ root bank.old }
+        ensures after { state_at (view self.new) (B.cells bank.new) ≡ placed_state (view self.old) (B.cells bank.old) h cell.now }
+        ensures rooted { B.root bank.new ≡ B.root bank.old }
     {
         if self.is_full(h) {
             return Err(Cause::NoRoom);

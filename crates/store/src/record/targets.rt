@@ -65,7 +65,7 @@ impl Record {
 
     // The pair that a hand refers to.
     pub fn target<V: LeafKind, B: Bank<V>>(&self, bank: &B, g: u16) -> Result<Target, Cause>
-        ensures { result ≡ target_of (view self.now).mark (cells bank.now) (hand_of (view self.now) g) }
+        ensures { result ≡ target_of (view self.now).mark (B.cells bank.now) (hand_of (view self.now) g) }
     {
         let Field::To(r) = self.hand(g) else {
             return Err(Cause::NilHand);
