@@ -20,7 +20,7 @@ abbrev Parts : {V : Type 0} → ℕ → Option Field → Option Field → Option
 Parts kind o p v m n Blank = Unit {0}
 Parts kind o p v m n (Pair left right) = (kind ≡ 0x40) × (o ≡ Some left) × (p ≡ Some right)
 Parts kind o p v m n (Leaf x) = (kind ≡ 0x80) × (v ≡ Some x)
-Parts kind o p v m n (Moved forward source) = (kind ≡ 0x_c0) × (m ≡ Some forward) × (n ≡ Some source)
+Parts kind o p v m n (Moved forward source) = (kind ≡ 0xC0) × (m ≡ Some forward) × (n ≡ Some source)
 
 parts : {V : Type 0} (kind : ℕ) (o p : Option Field) (v : Option V) (m : Option Reference) (n : Option Source) (c : Cell V) → by_kind kind (pair_of o p) (leaf_of v) (moved_of m n) ≡ c → Parts kind o p v m n c
 parts kind o p v m n Blank e = tt

@@ -30,7 +30,7 @@ abbrev pub kind_and_body : {V : Type 0} → (V → Bool) → (V → ℕ) → Cel
 kind_and_body lawful word Blank = (0x00, 0)
 kind_and_body lawful word (Pair left right) = (0x40, halves (pack_field left) (pack_field right))
 kind_and_body lawful word (Leaf v) = cond (lawful v) (0x80, word v) (0x00, 0)
-kind_and_body lawful word (Moved forward source) = (0x_c0, halves (pack_reference forward) (pack_source source))
+kind_and_body lawful word (Moved forward source) = (0xC0, halves (pack_reference forward) (pack_source source))
 
 unfoldable pub pack_cell : {V : Type 0} → (V → Bool) → (V → ℕ) → Cell V → List ℕ
 pack_cell lawful word c = nine_bytes (kind_and_body lawful word c).0 (kind_and_body lawful word c).1
@@ -52,7 +52,7 @@ moved_of (Some forward) (Some source) = Moved forward source
 
 -- one of three by the kind's byte; what fits no kind is blank
 abbrev pub by_kind : {V : Type 0} → ℕ → Cell V → Cell V → Cell V → Cell V
-by_kind kind pair leaf moved = cond (kind == 0x40) pair (cond (kind == 0x80) leaf (cond (kind == 0x_c0) moved Blank))
+by_kind kind pair leaf moved = cond (kind == 0x40) pair (cond (kind == 0x80) leaf (cond (kind == 0xC0) moved Blank))
 
 -- the cell of a kind's byte and a body
 abbrev pub cell_of : {V : Type 0} → (ℕ → Option V) → ℕ → ℕ → Cell V

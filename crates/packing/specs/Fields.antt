@@ -15,7 +15,7 @@ use Rattle.cells.specs.declared.Source.TheVariants.{Nowhere, Hand, Cell}
 -- the upper half of a reference's word: the present bit, the sticky bit, fourteen zero bits
 abbrev pub tag_mark : Tag → ℕ
 tag_mark Unique = 0x8000
-tag_mark Sticky = 0x_c000
+tag_mark Sticky = 0xC000
 
 abbrev pub pack_reference : Reference → ℕ
 pack_reference r = tag_mark r.tag * 2 ^ 16 + r.address
@@ -23,7 +23,7 @@ pack_reference r = tag_mark r.tag * 2 ^ 16 + r.address
 abbrev pub unpack_reference : ℕ → Option Reference
 unpack_reference w =
     cond (w / 2 ^ 16 == 0x8000) (Some (record { tag = Unique; address = w % 2 ^ 16 }))
-    (cond (w / 2 ^ 16 == 0x_c000) (Some (record { tag = Sticky; address = w % 2 ^ 16 })) None)
+    (cond (w / 2 ^ 16 == 0xC000) (Some (record { tag = Sticky; address = w % 2 ^ 16 })) None)
 
 unfoldable pub pack_field : Field → ℕ
 pack_field Nil = 0
@@ -40,7 +40,7 @@ unpack_field w = cond (w == 0) (Some Nil) (to_reference (unpack_reference w))
 -- the upper half of a source's word: two bits that say which source it is, fourteen zero bits
 abbrev pub side_mark : Side → ℕ
 side_mark Left = 0x8000
-side_mark Right = 0x_c000
+side_mark Right = 0xC000
 
 abbrev pub pack_source : Source → ℕ
 pack_source Nowhere = 0
@@ -52,7 +52,7 @@ unpack_source w =
     cond (w == 0) (Some Nowhere)
     (cond (w / 2 ^ 16 == 0x4000) (Some (Hand (w % 2 ^ 16)))
     (cond (w / 2 ^ 16 == 0x8000) (Some (Cell (w % 2 ^ 16) Left))
-    (cond (w / 2 ^ 16 == 0x_c000) (Some (Cell (w % 2 ^ 16) Right)) None)))
+    (cond (w / 2 ^ 16 == 0xC000) (Some (Cell (w % 2 ^ 16) Right)) None)))
 
 -- whether the numbers fit sixteen bits, as all that the code holds do: a number of the logic may be wider
 abbrev pub reference_fits : Reference → Bool
