@@ -2,7 +2,7 @@
 use crate::Ended;
 use crate::files::read_image;
 use cells::{Cell, Field, Tag};
-use images::{cell_of, hand_of_lem};
+use images::{cell_of, hand_of};
 use reports::sharing::shared_cells;
 use std::alloc::AllocError;
 use texts::typed::TypedLeaf;
@@ -50,7 +50,7 @@ fn draw_cell<V: TypedLeaf>(
 
 fn draw_hands(rt: &HostRuntime, image: &[u8]) -> Result<(), AllocError> {
     for i in 0..16u8 {
-        let field = hand_of_lem(image, i).unwrap_or(Field::Nil);
+        let field = hand_of(image, i).unwrap_or(Field::Nil);
         if let Field::To(_) = field {
             let _ = println!(rt; "  hand{i} [shape=plaintext, label=\"hand {i}\"];");
             let from = format!(in rt.alloc(); "hand{i}")?;

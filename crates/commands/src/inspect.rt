@@ -3,7 +3,7 @@ use crate::Ended;
 use crate::files::read_image;
 use cells::Field;
 use dumps::{Tally, cell_text, field_text};
-use images::{cell_of, hand_of_lem};
+use images::{cell_of, hand_of};
 use reports::counts::{hands_in_use, tally_of};
 use std::alloc::AllocError;
 use texts::typed::TypedLeaf;
@@ -26,7 +26,7 @@ pub fn check<V: TypedLeaf>(rt: &HostRuntime, name: &str) -> Result<(), Ended> {
 
 fn show_hands(rt: &HostRuntime, image: &[u8]) -> Result<(), AllocError> {
     for i in 0..16u8 {
-        let text = field_text(rt.alloc(), hand_of_lem(image, i).unwrap_or(Field::Nil))?;
+        let text = field_text(rt.alloc(), hand_of(image, i).unwrap_or(Field::Nil))?;
         let _ = println!(rt; "hand {i}: {text}");
     }
     Ok(())

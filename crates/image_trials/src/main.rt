@@ -3,7 +3,7 @@
 
 use cells::Cell;
 use cells::leaves::LeafKind;
-use images::{cell_of, check, diagnose, hand_of_lem, same};
+use images::{cell_of, check, diagnose, hand_of, same};
 use kinds::instructions::Instruction;
 use kinds::points::Point;
 use std::alloc::{AllocError, AllocFailed, Global};
@@ -56,7 +56,7 @@ fn bytes_of(heap: Global, text: &str) -> Result<Vec<u8>, Ended> {
 // Whether each hand and each of the cells of an image can be read, and no more cells than these.
 fn reads<V: LeafKind>(image: &[u8], count: u16) -> bool {
     for i in 0..16 {
-        if hand_of_lem(image, i).is_none() {
+        if hand_of(image, i).is_none() {
             return false;
         }
     }
@@ -66,7 +66,7 @@ fn reads<V: LeafKind>(image: &[u8], count: u16) -> bool {
             _ => return false,
         }
     }
-    hand_of_lem(image, 16).is_none() && cell_of::<V>(image, count).is_none()
+    hand_of(image, 16).is_none() && cell_of::<V>(image, count).is_none()
 }
 
 // The answer to a case, and what is wrong with the bytes.

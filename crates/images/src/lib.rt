@@ -105,7 +105,7 @@ fn after_heading(image: &[u8]) -> &[u8]
 }
 
 // The hand with an index, none past the sixteenth, past the end of the bytes, or where the bytes are no field.
-pub fn hand_of_lem(image: &[u8], i: u8) -> Option<Field>
+pub fn hand_of(image: &[u8], i: u8) -> Option<Field>
     ensures found { result ≡ hand_of image.now i }
 {
     if i < 16 && 8 + 4 * i as usize <= image.len() {
@@ -129,7 +129,7 @@ pub fn cell_of<V: LeafKind>(image: &[u8], at: u16) -> Option<Cell<V>>
     }
 }
 
-// An image has one set of hands and cells, and `hand_of_lem` and `cell_of` find them.
+// An image has one set of hands and cells, and `hand_of` and `cell_of` find them.
 pub fn image_has_one_reading<V: LeafKind>()
     ensures { OneReading V.lawful V.word V.taken V.number }
 {}

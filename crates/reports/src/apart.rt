@@ -9,7 +9,7 @@ ghost use Rattle.reports.specs.Apart.{FirstApart, Differs, FoundText, hand_line,
 use cells::leaves::LeafKind;
 use cells::{Cell, Field};
 use dumps::{cell_text, field_text};
-use images::{cell_of, hand_of_lem};
+use images::{cell_of, hand_of};
 use std::alloc::{AllocError, Global};
 use texts::typed::TypedLeaf;
 
@@ -34,7 +34,7 @@ fn hand_apart(a: &[u8], b: &[u8]) -> Option<u8>
     ensures { FirstApart (hand_of a.now) (hand_of b.now) 16 result }
 {
     for i in 0..16 {
-        if !same_hand(hand_of_lem(a, i), hand_of_lem(b, i)) {
+        if !same_hand(hand_of(a, i), hand_of(b, i)) {
             return Some(i);
         }
     }
@@ -141,8 +141,8 @@ pub fn difference_line<V: TypedLeaf>(
 {
     match difference {
         Difference::Hand(i) => {
-            let x = hand_text(heap, hand_of_lem(a, i))?;
-            let y = hand_text(heap, hand_of_lem(b, i))?;
+            let x = hand_text(heap, hand_of(a, i))?;
+            let y = hand_text(heap, hand_of(b, i))?;
             hand_line(heap, i, x.as_str(), y.as_str())
         }
         Difference::Cell(at) => {

@@ -4,7 +4,7 @@ ghost use Rattle.reports.specs.Counts.{counted, hands_used, with_found, tallied}
 
 use cells::{Cell, Field};
 use dumps::Tally;
-use images::{cell_of, hand_of_lem};
+use images::{cell_of, hand_of};
 use texts::typed::TypedLeaf;
 
 fn with_hand(used: u8, hand: Option<Field>) -> u8
@@ -23,7 +23,7 @@ pub fn hands_in_use(image: &[u8]) -> u8
 {
     let mut used = 0;
     for i in 0..16 {
-        used = with_hand(used, hand_of_lem(image, i));
+        used = with_hand(used, hand_of(image, i));
     }
     used
 }

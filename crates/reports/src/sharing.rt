@@ -5,7 +5,7 @@ ghost use Rattle.reports.specs.Sharing.{marked, marked_sides, marked_cells, is_m
 
 use cells::leaves::LeafKind;
 use cells::{Cell, Field, Tag};
-use images::{cell_of, hand_of_lem};
+use images::{cell_of, hand_of};
 
 // A mark for each address to which a STICKY reference leads.
 #[derive(Drop)]
@@ -65,7 +65,7 @@ pub fn shared_cells<V: LeafKind>(image: &[u8], count: u16) -> Shared
         marks: [false; 32768],
     };
     for i in 0..16 {
-        shared.mark_hand(hand_of_lem(image, i));
+        shared.mark_hand(hand_of(image, i));
     }
     for at in 0..count {
         shared.mark_sides(cell_of::<V>(image, at));

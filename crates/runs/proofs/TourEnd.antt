@@ -90,7 +90,7 @@ module _ {V : Type 0} {size mark : ℕ} {hands : List Field} {cells : List (Cell
     pub was_led : was (held_below mark hands cells) L.orig p ≡ To led
     pub cell : ℕ
     pub cell_low : cell < t.copied
-    pub cell_of_lem : L.orig cell ≡ led.address
+    pub cell_of : L.orig cell ≡ led.address
     pub is : r ≡ record { tag = L.tags cell; address = cell }
 
   pub read : (p : ℕ) (r : Reference) → held_below t.copied t.hands t.new p ≡ To r → Read p r
@@ -110,7 +110,7 @@ module _ {V : Type 0} {size mark : ℕ} {hands : List Field} {cells : List (Cell
             was_led = q;
             cell = m.0;
             cell_low = m.1;
-            cell_of_lem = m.2;
+            cell_of = m.2;
             is = (let y : To r ≡ ref (L.tags m.0) m.0 = sym e ∙ held_within p h ∙ m.3 in cc);
           }
 
@@ -130,7 +130,7 @@ module _ {V : Type 0} {size mark : ℕ} {hands : List Field} {cells : List (Cell
       let x = refers_from (held_below t.copied t.hands t.new p) j f in
       let y = read p x.0 x.1 in
       let e : y.cell ≡ j = (let a = y.is in let c = x.2 in cc) in
-      (y.low, subst (λ i. i < t.copied) e y.cell_low, refers_to_lem (was (held_below mark hands cells) L.orig p) y.led (L.orig j) y.was_led (sym y.cell_of_lem ∙ ap L.orig e))
+      (y.low, subst (λ i. i < t.copied) e y.cell_low, refers_to_lem (was (held_below mark hands cells) L.orig p) y.led (L.orig j) y.was_led (sym y.cell_of ∙ ap L.orig e))
 
   pub first_low : (j : ℕ) → j < t.copied → L.first j < 16 + 2 * t.copied
   first_low j h = let g = T.visits.gone j h in omega arith
@@ -172,7 +172,7 @@ module _ {V : Type 0} {size mark : ℕ} {hands : List Field} {cells : List (Cell
           let k = x.low in
           let c : q ≡ L.first x.cell = T.visits.sole x.cell q x.cell_low e (omega arith) y.2 in
           let d : p ≡ L.first x.cell = T.visits.sole x.cell p x.cell_low e (omega arith)
-          (refers_to_lem (was (held_below mark hands cells) L.orig p) x.led (L.orig x.cell) x.was_led (sym x.cell_of_lem)) in
+          (refers_to_lem (was (held_below mark hands cells) L.orig p) x.led (L.orig x.cell) x.was_led (sym x.cell_of)) in
           absurd (n (c ∙ sym d))
 
   pub exact_now : Exact (held_below t.copied t.hands t.new)

@@ -2,4 +2,4 @@ use Rattle.std.proofs.Common.{rules}
 use Rattle.dumps.proofs.pair_text.Goals as goal
 
 pub returns : goal.returns
-returns c = rw (← c.in-ok-left.ensures, ← c.in-ok-right.ensures) (search rules)
+returns c = rw (← c.in_ok-left.ensures, ← c.in_ok-right.ensures) (search rules)

@@ -12,6 +12,6 @@ pub returns-in-32768 : goal.returns-in-32768
 unfolding unpack_field
 returns-in-32768 c = let some = c.requires in grind (arith, nat_tests)
 
-pub returns-in-default : goal.returns-in-default
+pub returns-in_default : goal.returns-in_default
 unfolding unpack_field
-returns-in-default c = let some = c.requires in grind (arith, nat_tests)
+returns-in_default c = let some = c.requires in grind (arith, nat_tests)

@@ -13,9 +13,9 @@ pub returns : goal.returns
 returns g c =
     let laws = g.met.V.LeafKind.laws in
     let cell = c.args.c.now in
-    let p = c.kind-and-body-kind in
-    let bs = c.nine-bytes.result in
-    let packed = packed_from g.V.LeafKind.lawful g.V.LeafKind.word cell p.result bs c.nine-bytes.ensures p.ensures.parted in
+    let p = c.kind_and_body-kind in
+    let bs = c.nine_bytes.result in
+    let packed = packed_from g.V.LeafKind.lawful g.V.LeafKind.word cell p.result bs c.nine_bytes.ensures p.ensures.parted in
     record {
       packed = packed;
       fits = p.ensures.fits;

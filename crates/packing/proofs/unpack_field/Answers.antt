@@ -3,11 +3,11 @@ use Rattle.std.proofs.Common.{sym}
 use Rattle.packing.proofs.Fields.{field_only, field_fits_lem}
 use Rattle.packing.proofs.unpack_field.Goals as goal
 
-pub returns-then-is-field : goal.returns-then-is-field
-returns-then-is-field c =
-    let f = c.field-of.result in
+pub returns-then-is_field : goal.returns-then-is_field
+returns-then-is_field c =
+    let f = c.field_of.result in
     record {
-      unpacked = sym c.field-of.ensures;
-      only = field_only c.args.w f c.field-of.ensures;
-      fits = field_fits_lem c.args.w f c.field-of.ensures;
+      unpacked = sym c.field_of.ensures;
+      only = field_only c.args.w f c.field_of.ensures;
+      fits = field_fits_lem c.args.w f c.field_of.ensures;
     }

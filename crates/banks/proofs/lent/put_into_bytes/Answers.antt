@@ -26,18 +26,18 @@ returns g c =
     let bs = c.args.bytes.now in
     let a = c.args.at in
     let cell = c.args.cell.now in
-    let used = 9 * c.size-packed-used.result - 0 in
-    let ys = c.put-into-all.new.bytes in
-    let whole : used ≡ 9 * size_of bs = omega (arith, c.size-packed-used.ensures) in
+    let used = 9 * c.size_packed-used.result - 0 in
+    let ys = c.put_into_all.new.bytes in
+    let whole : used ≡ 9 * size_of bs = omega (arith, c.size_packed-used.ensures) in
     let same = packed_used taken bs used whole in
     let size = length_packed taken bs in
     let long = length-take-le used bs (omega arith) in
-    let front : length ys ≡ 9 * size_of bs = omega (arith, c.put-into-all.auto.bytes) in
-    let small : (k : ℕ) → get_or (ys ++ drop used bs) k 0 < 256 = λ k. let fits = c.type-inv.bytes k in search rules in
+    let front : length ys ≡ 9 * size_of bs = omega (arith, c.put_into_all.auto.bytes) in
+    let small : (k : ℕ) → get_or (ys ++ drop used bs) k 0 < 256 = λ k. let fits = c.type_inv.bytes k in search rules in
     let few : length (drop used bs) < 9 = simp length-drop (omega arith) in
     let joined = packed_front taken (size_of bs) ys (drop used bs) front few in
-    let after : packed_cells taken (ys ++ drop used bs) ≡ after_put lawful (packed_cells taken bs) a cell = joined ∙ c.put-into-all.ensures.after ∙ ap (λ cs. after_put lawful cs a cell) same in
-    let answer = c.put-into-all.ensures.answer ∙ ap (λ cs. takes lawful cs a cell) same in
+    let after : packed_cells taken (ys ++ drop used bs) ≡ after_put lawful (packed_cells taken bs) a cell = joined ∙ c.put_into_all.ensures.after ∙ ap (λ cs. after_put lawful cs a cell) same in
+    let answer = c.put_into_all.ensures.answer ∙ ap (λ cs. takes lawful cs a cell) same in
     record {
       answer = rw size at answer;
       after = after;

@@ -5,28 +5,28 @@ use Rattle.collector.specs.Acts.{begun_reply, both_sized}
 use Rattle.collector.proofs.Acting.{begin_missized, begin_busy, begin_done}
 use Rattle.collector.proofs.calls.begin.Goals as goal
 
-pub returns-in-err-both-sized : goal.returns-in-err-both-sized
-returns-in-err-both-sized g c =
+pub returns-in_err-both_sized : goal.returns-in_err-both_sized
+returns-in_err-both_sized g c =
     let m = view c.args.store.now in
     let olds = g.O.Bank.cells c.args.working.now in
     let news = g.N.Bank.cells c.args.spare.now in
     let p = err_from_is_err_and c.from-residual.result c.from-residual.ensures.1 in
-    let why = c.in-err-both-sized.ensures ∙ ap (λ n. both_sized m n c.size-2.result) c.size.ensures ∙ ap (both_sized m (length olds)) c.size-2.ensures in
-    begin_missized m olds news (begun_reply c.from-residual.result) p.0 c.in-err-both-sized.field-0.0 why (ap begun_reply p.1) p.2
+    let why = c.in_err-both_sized.ensures ∙ ap (λ n. both_sized m n c.size-2.result) c.size.ensures ∙ ap (both_sized m (length olds)) c.size-2.ensures in
+    begin_missized m olds news (begun_reply c.from-residual.result) p.0 c.in_err-both_sized.field-0.0 why (ap begun_reply p.1) p.2
 
-pub returns-in-err-turn : goal.returns-in-err-turn
-returns-in-err-turn g c =
+pub returns-in_err-turn : goal.returns-in_err-turn
+returns-in_err-turn g c =
     let m = view c.args.store.now in
     let olds = g.O.Bank.cells c.args.working.now in
     let news = g.N.Bank.cells c.args.spare.now in
-    let p = err_from_is_err_and c.from-residual-in-err-turn.result c.from-residual-in-err-turn.ensures.1 in
-    let fit = c.in-ok-both-sized.ensures ∙ ap (λ n. both_sized m n c.size-2.result) c.size.ensures ∙ ap (both_sized m (length olds)) c.size-2.ensures in
-    begin_busy m olds news (begun_reply c.from-residual-in-err-turn.result) p.0 c.in-err-turn.field-0.0 _ (view c.turn.new.self) fit c.in-err-turn.ensures.answer c.turn.ensures.after (ap begun_reply p.1) p.2
+    let p = err_from_is_err_and c.from-residual-in_err-turn.result c.from-residual-in_err-turn.ensures.1 in
+    let fit = c.in_ok-both_sized.ensures ∙ ap (λ n. both_sized m n c.size-2.result) c.size.ensures ∙ ap (both_sized m (length olds)) c.size-2.ensures in
+    begin_busy m olds news (begun_reply c.from-residual-in_err-turn.result) p.0 c.in_err-turn.field-0.0 _ (view c.turn.new.self) fit c.in_err-turn.ensures.answer c.turn.ensures.after (ap begun_reply p.1) p.2
 
 pub returns : goal.returns
 returns g c =
     let m = view c.args.store.now in
     let olds = g.O.Bank.cells c.args.working.now in
     let news = g.N.Bank.cells c.args.spare.now in
-    let fit = c.in-ok-both-sized.ensures ∙ ap (λ n. both_sized m n c.size-2.result) c.size.ensures ∙ ap (both_sized m (length olds)) c.size-2.ensures in
-    begin_done m olds news _ _ (view c.turn.new.self) fit c.in-ok-turn.ensures.answer c.turn.ensures.after
+    let fit = c.in_ok-both_sized.ensures ∙ ap (λ n. both_sized m n c.size-2.result) c.size.ensures ∙ ap (both_sized m (length olds)) c.size-2.ensures in
+    begin_done m olds news _ _ (view c.turn.new.self) fit c.in_ok-turn.ensures.answer c.turn.ensures.after

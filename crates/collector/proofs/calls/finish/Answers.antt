@@ -13,20 +13,20 @@ returns-in-Err g c =
     let olds = g.O.Bank.cells c.args.old.now in
     let news = g.N.Bank.cells c.args.new.now in
     let why = c.in-Err.ensures ∙ ap (λ n. under_way m n c.size-2.result) c.size.ensures ∙ ap (under_way m (length olds)) c.size-2.ensures in
-    record { acted = finish_refused m olds news _ c.in-Err.cause why refl; old-rooted = refl; new-rooted = refl }
+    record { acted = finish_refused m olds news _ c.in-Err.cause why refl; old_rooted = refl; new_rooted = refl }
 
-pub returns-then-make-steps : goal.returns-then-make-steps
-returns-then-make-steps g c =
+pub returns-then-make_steps : goal.returns-then-make_steps
+returns-then-make_steps g c =
     let m = view c.args.store.now in
     let olds = g.O.Bank.cells c.args.old.now in
     let news = g.N.Bank.cells c.args.new.now in
-    let fit = c.in-default.ensures ∙ ap (λ n. under_way m n c.size-2.result) c.size.ensures ∙ ap (under_way m (length olds)) c.size-2.ensures in
-    let most : c.saturating-sub-most.result ≡ 16 + 2 * m.size - steps_of m.mode = c.saturating-sub-most.ensures ∙ ap (λ n. 16 + 2 * n - c.steps-made.result) c.size-3.ensures.value ∙ ap (λ n. 16 + 2 * m.size - n) c.steps-made.ensures in
+    let fit = c.in_default.ensures ∙ ap (λ n. under_way m n c.size-2.result) c.size.ensures ∙ ap (under_way m (length olds)) c.size-2.ensures in
+    let most : c.saturating_sub-most.result ≡ 16 + 2 * m.size - steps_of m.mode = c.saturating_sub-most.ensures ∙ ap (λ n. 16 + 2 * n - c.steps_made.result) c.size-3.ensures.value ∙ ap (λ n. 16 + 2 * m.size - n) c.steps_made.ensures in
     let whole = ap (λ n. march n (tour_of (banks_at m olds news))) most in
     record {
-      acted = finish_spoiled m olds news _ _ fit (sym c.if-make-steps.true ∙ c.make-steps.ensures.broken ∙ ap (λ s. s.broken) whole) (c.make-steps.ensures.after ∙ ap (λ s. standing m.free s.tour) whole);
-      old-rooted = c.make-steps.ensures.old-rooted;
-      new-rooted = c.make-steps.ensures.new-rooted;
+      acted = finish_spoiled m olds news _ _ fit (sym c.if-make_steps.true ∙ c.make_steps.ensures.broken ∙ ap (λ s. s.broken) whole) (c.make_steps.ensures.after ∙ ap (λ s. standing m.free s.tour) whole);
+      old_rooted = c.make_steps.ensures.old_rooted;
+      new_rooted = c.make_steps.ensures.new_rooted;
     }
 
 pub returns : goal.returns
@@ -34,12 +34,12 @@ returns g c =
     let m = view c.args.store.now in
     let olds = g.O.Bank.cells c.args.old.now in
     let news = g.N.Bank.cells c.args.new.now in
-    let fit = c.in-default.ensures ∙ ap (λ n. under_way m n c.size-2.result) c.size.ensures ∙ ap (under_way m (length olds)) c.size-2.ensures in
-    let most : c.saturating-sub-most.result ≡ 16 + 2 * m.size - steps_of m.mode = c.saturating-sub-most.ensures ∙ ap (λ n. 16 + 2 * n - c.steps-made.result) c.size-3.ensures.value ∙ ap (λ n. 16 + 2 * m.size - n) c.steps-made.ensures in
+    let fit = c.in_default.ensures ∙ ap (λ n. under_way m n c.size-2.result) c.size.ensures ∙ ap (under_way m (length olds)) c.size-2.ensures in
+    let most : c.saturating_sub-most.result ≡ 16 + 2 * m.size - steps_of m.mode = c.saturating_sub-most.ensures ∙ ap (λ n. 16 + 2 * n - c.steps_made.result) c.size-3.ensures.value ∙ ap (λ n. 16 + 2 * m.size - n) c.steps_made.ensures in
     let whole = ap (λ n. march n (tour_of (banks_at m olds news))) most in
     record {
-      acted = finish_done m olds news _ (view c.make-steps.new.store) (view c.turn.new.self) _ _ c.tally-counts.result fit (sym c.if-make-steps.false ∙ c.make-steps.ensures.broken ∙ ap (λ s. s.broken) whole)
-          (c.make-steps.ensures.after ∙ ap (λ s. standing m.free s.tour) whole) c.tally-counts.ensures c.turn.ensures.after;
-      old-rooted = c.make-steps.ensures.old-rooted;
-      new-rooted = c.make-steps.ensures.new-rooted;
+      acted = finish_done m olds news _ (view c.make_steps.new.store) (view c.turn.new.self) _ _ c.tally-counts.result fit (sym c.if-make_steps.false ∙ c.make_steps.ensures.broken ∙ ap (λ s. s.broken) whole)
+          (c.make_steps.ensures.after ∙ ap (λ s. standing m.free s.tour) whole) c.tally-counts.ensures c.turn.ensures.after;
+      old_rooted = c.make_steps.ensures.old_rooted;
+      new_rooted = c.make_steps.ensures.new_rooted;
     }

@@ -15,8 +15,8 @@ returns-in-Finished g c =
     record {
       broken = e.0;
       after = e.1;
-      old-rooted = c.step.ensures.old-rooted ∙ c.loop-made.invariant.1;
-      new-rooted = c.step.ensures.new-rooted ∙ c.loop-made.invariant.2;
+      old_rooted = c.step.ensures.old_rooted ∙ c.loop-made.invariant.1;
+      new_rooted = c.step.ensures.new_rooted ∙ c.loop-made.invariant.2;
     }
 
 pub returns-in-Spoiled : goal.returns-in-Spoiled
@@ -30,8 +30,8 @@ returns-in-Spoiled g c =
     record {
       broken = e.0;
       after = e.1;
-      old-rooted = c.step.ensures.old-rooted ∙ c.loop-made.invariant.1;
-      new-rooted = c.step.ensures.new-rooted ∙ c.loop-made.invariant.2;
+      old_rooted = c.step.ensures.old_rooted ∙ c.loop-made.invariant.1;
+      new_rooted = c.step.ensures.new_rooted ∙ c.loop-made.invariant.2;
     }
 
 pub loop-made-preserved : goal.loop-made-preserved
@@ -42,8 +42,8 @@ loop-made-preserved g c =
     let j = c.args.most - (c.loop-made.made + 1) in
     let some : k ≡ suc j = omega arith in (
       one_made c.args.most first k now c.loop-made.invariant.0 j _ some c.in-Stepped.ensures.outcome c.step.ensures.after,
-      c.step.ensures.old-rooted ∙ c.loop-made.invariant.1,
-      c.step.ensures.new-rooted ∙ c.loop-made.invariant.2,
+      c.step.ensures.old_rooted ∙ c.loop-made.invariant.1,
+      c.step.ensures.new_rooted ∙ c.loop-made.invariant.2,
     )
 
 pub returns : goal.returns
@@ -53,4 +53,4 @@ returns g c =
     let k = c.args.most - c.loop-made.made in
     let none : k ≡ 0 = omega arith in
     let e = all_made c.args.most first k now c.loop-made.invariant.0 none in
-    record { broken = e.0; after = e.1; old-rooted = c.loop-made.invariant.1; new-rooted = c.loop-made.invariant.2 }
+    record { broken = e.0; after = e.1; old_rooted = c.loop-made.invariant.1; new_rooted = c.loop-made.invariant.2 }

@@ -3,14 +3,14 @@ use Rattle.store.specs.Record.{view}
 use Rattle.collector.proofs.Stepping.{step_not_refused, follows_again}
 use Rattle.collector.proofs.steps.follow.Goals as goal
 
-pub returns-in-err-turn : goal.returns-in-err-turn
-returns-in-err-turn g c =
+pub returns-in_err-turn : goal.returns-in_err-turn
+returns-in_err-turn g c =
     let m = view c.args.store.now in
     let olds = g.O.Bank.cells c.args.old.now in
     let news = g.N.Bank.cells c.args.new.now in
     let v = c.args.visit in
     let at = c.requires.visiting in
-    absurd (step_not_refused m v.steps v.copied v.marks at.mode at.left olds news false c.in-err-turn.field-0.0 c.in-err-turn.ensures.answer)
+    absurd (step_not_refused m v.steps v.copied v.marks at.mode at.left olds news false c.in_err-turn.field-0.0 c.in_err-turn.ensures.answer)
 
 pub returns-in-Unique : goal.returns-in-Unique
 returns-in-Unique g c =
@@ -20,7 +20,7 @@ returns-in-Unique g c =
     let v = c.args.visit in
     let at = c.requires.visiting in
     record {
-      went = follows_again m v.steps v.copied v.marks at.mode at.left olds news c.args.met c.args.forward c.args.source c.meet-again.result _ c.in-Unique.is c.if-forward-visit.false c.meet-again.ensures.went;
-      old-rooted = c.meet-again.ensures.old-rooted;
-      new-rooted = c.meet-again.ensures.new-rooted;
+      went = follows_again m v.steps v.copied v.marks at.mode at.left olds news c.args.met c.args.forward c.args.source c.meet_again.result _ c.in-Unique.is c.if-forward-visit.false c.meet_again.ensures.went;
+      old_rooted = c.meet_again.ensures.old_rooted;
+      new_rooted = c.meet_again.ensures.new_rooted;
     }

@@ -9,7 +9,7 @@ returns-in-Ok g c =
     let olds = g.O.Bank.cells c.args.old.now in
     let news = g.N.Bank.cells c.args.new.now in
     let x = made_step m c.in-Collecting.steps c.in-Collecting.copied c.in-Collecting.marks (sym c.in-Collecting.ensures.value) c.if-steps-copied.false olds news _ c.in-Ok.field-0 c.in-Ok.ensures.went in
-    record { outcome = x.0; after = x.1; old-rooted = c.visit-next.ensures.old-rooted; new-rooted = c.visit-next.ensures.new-rooted }
+    record { outcome = x.0; after = x.1; old_rooted = c.visit_next.ensures.old_rooted; new_rooted = c.visit_next.ensures.new_rooted }
 
 pub returns-in-Err : goal.returns-in-Err
 returns-in-Err g c =
@@ -17,4 +17,4 @@ returns-in-Err g c =
     let olds = g.O.Bank.cells c.args.old.now in
     let news = g.N.Bank.cells c.args.new.now in
     let x = lost_step m c.in-Collecting.steps c.in-Collecting.copied c.in-Collecting.marks (sym c.in-Collecting.ensures.value) c.if-steps-copied.false olds news _ _ c.in-Err.ensures.went in
-    record { outcome = x.0; after = x.1; old-rooted = c.visit-next.ensures.old-rooted; new-rooted = c.visit-next.ensures.new-rooted }
+    record { outcome = x.0; after = x.1; old_rooted = c.visit_next.ensures.old_rooted; new_rooted = c.visit_next.ensures.new_rooted }

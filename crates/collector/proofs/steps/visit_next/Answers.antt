@@ -8,15 +8,15 @@ returns-in-Nil g c =
     let m = view c.args.store.now in
     let olds = g.O.Bank.cells c.args.old.now in
     let news = g.N.Bank.cells c.args.new.now in
-    let w = passes m c.args.steps c.args.copied c.args.marks c.requires.mode c.requires.left olds news c.place-of-place.result c.in-ok-cell.cell c.field-visited.result c.place-of-place.ensures
-    c.in-ok-cell.ensures c.field-visited.ensures (view c.turn.new.self) c.turn.result c.in-Nil.is c.turn.ensures.answer c.turn.ensures.after in
-    record { went = w; old-rooted = refl; new-rooted = refl }
+    let w = passes m c.args.steps c.args.copied c.args.marks c.requires.mode c.requires.left olds news c.place_of-place.result c.in_ok-cell.cell c.field_visited.result c.place_of-place.ensures
+    c.in_ok-cell.ensures c.field_visited.ensures (view c.turn.new.self) c.turn.result c.in-Nil.is c.turn.ensures.answer c.turn.ensures.after in
+    record { went = w; old_rooted = refl; new_rooted = refl }
 
 pub returns-in-To : goal.returns-in-To
 returns-in-To g c =
     let m = view c.args.store.now in
     let olds = g.O.Bank.cells c.args.old.now in
     let news = g.N.Bank.cells c.args.new.now in
-    let w = meets m c.args.steps c.args.copied c.args.marks c.requires.mode c.requires.left olds news c.place-of-place.result c.in-ok-cell.cell c.field-visited.result c.place-of-place.ensures
-    c.in-ok-cell.ensures c.field-visited.ensures c.in-To.met c.meet.result _ c.in-To.is c.meet.ensures.went in
-    record { went = w; old-rooted = c.meet.ensures.old-rooted; new-rooted = c.meet.ensures.new-rooted }
+    let w = meets m c.args.steps c.args.copied c.args.marks c.requires.mode c.requires.left olds news c.place_of-place.result c.in_ok-cell.cell c.field_visited.result c.place_of-place.ensures
+    c.in_ok-cell.ensures c.field_visited.ensures c.in-To.met c.meet.result _ c.in-To.is c.meet.ensures.went in
+    record { went = w; old_rooted = c.meet.ensures.old_rooted; new_rooted = c.meet.ensures.new_rooted }

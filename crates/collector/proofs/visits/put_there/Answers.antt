@@ -14,7 +14,7 @@ returns-in-Cell g c =
     let pair = sym (ap (λ p. place_fits p cell) is) ∙ c.requires.there in
     record {
       model = sym (ap (λ p. with_hands_at (view c.args.store.now) p c.args.field) is);
-      cells = c.put.ensures.after ∙ ap (after_put lawful cs c.in-Cell.at) c.with-side.ensures ∙ side_put lawful cs c.in-Cell.at cell c.in-Cell.side c.args.field pair
+      cells = c.put.ensures.after ∙ ap (after_put lawful cs c.in-Cell.at) c.with_side.ensures ∙ side_put lawful cs c.in-Cell.at cell c.in-Cell.side c.args.field pair
           ∙ sym (ap (λ p. cells_at p c.args.field cell cs) is);
       rooted = c.put.ensures.rooted;
     }

@@ -7,10 +7,10 @@ use Rattle.images.proofs.opening.hands_at.Goals as goal
 
 pub loop-i-preserved : goal.loop-i-preserved
 loop-i-preserved c = (
-  length-set c.loop-i.hands c.loop-i.i c.field-at.result ∙ c.loop-i.invariant.0,
-  take_more_set c.loop-i.hands c.loop-i.i c.field-at.result (omega arith)
-      ∙ ap (λ l. l ++ c.field-at.result ∷ []) c.loop-i.invariant.1
-      ∙ ap (λ f. map (λ k. or_nil (stored_hand c.args.rest.now k)) (range_with_len 0 c.loop-i.i) ++ f ∷ []) c.field-at.ensures
+  length-set c.loop-i.hands c.loop-i.i c.field_at.result ∙ c.loop-i.invariant.0,
+  take_more_set c.loop-i.hands c.loop-i.i c.field_at.result (omega arith)
+      ∙ ap (λ l. l ++ c.field_at.result ∷ []) c.loop-i.invariant.1
+      ∙ ap (λ f. map (λ k. or_nil (stored_hand c.args.rest.now k)) (range_with_len 0 c.loop-i.i) ++ f ∷ []) c.field_at.ensures
       ∙ sym (map-range_with_len_more (λ k. or_nil (stored_hand c.args.rest.now k)) 0 c.loop-i.i c.loop-i.i (omega arith)),
 )
 

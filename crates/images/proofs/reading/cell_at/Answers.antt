@@ -7,5 +7,5 @@ use Rattle.images.proofs.reading.cell_at.Goals as goal
 pub returns : goal.returns
 unfolding stored_cell
 returns g c =
-    c.unpack-cell.ensures.unpacked
+    c.unpack_cell.ensures.unpacked
     ∙ ap (unpack_cell g.V.LeafKind.taken) (sym (nine_listed c.args.rest.now (64 + 9 * c.args.j) (omega arith)))

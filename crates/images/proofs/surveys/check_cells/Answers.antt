@@ -14,8 +14,8 @@ returns-in-Some g c =
 pub loop-j-preserved : goal.loop-j-preserved
 loop-j-preserved g c =
     let e : 18 + 2 * c.loop-j.j ≡ 16 + 2 * (c.loop-j.j + 1) = omega arith in (
-      subst (λ p. TaggedTo g.V.LeafKind.taken c.args.rest.now c.args.count p None) e c.in-default.ensures.kept,
-      first_more (cell_tags g.V.LeafKind.taken c.args.rest.now c.args.count) c.loop-j.j (c.loop-j.j + 1) (omega arith) c.loop-j.invariant.1 (sym c.in-default.ensures.flaw),
+      subst (λ p. TaggedTo g.V.LeafKind.taken c.args.rest.now c.args.count p None) e c.in_default.ensures.kept,
+      first_more (cell_tags g.V.LeafKind.taken c.args.rest.now c.args.count) c.loop-j.j (c.loop-j.j + 1) (omega arith) c.loop-j.invariant.1 (sym c.in_default.ensures.flaw),
     )
 
 pub returns : goal.returns

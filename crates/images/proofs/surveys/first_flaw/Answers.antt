@@ -4,8 +4,8 @@ use Rattle.images.specs.Layout.{held}
 use Rattle.images.proofs.Steps.{surveyed_start}
 use Rattle.images.proofs.surveys.first_flaw.Goals as goal
 
-pub read-hands-requires : goal.read-hands-requires
-read-hands-requires g c =
+pub read_hands-requires : goal.read_hands-requires
+read_hands-requires g c =
     record {
       sized = c.requires.sized;
       few = c.requires.few;

@@ -12,31 +12,31 @@ returns-then-size g c = search rules
 pub returns-in-Collecting : goal.returns-in-Collecting
 returns-in-Collecting g c = row_collecting (view c.args.record.now) (g.B.Bank.cells c.args.bank.now) c.args.space (sym c.size.ensures ∙ c.if-size.false ∙ c.size-2.ensures.value) (sym (ap is_collecting c.in-Collecting.ensures.value))
 
-pub returns-then-not-all-nodes : goal.returns-then-not-all-nodes
-returns-then-not-all-nodes g c =
+pub returns-then-not-all_nodes : goal.returns-then-not-all_nodes
+returns-then-not-all_nodes g c =
     row_spoiled (view c.args.record.now) (g.B.Bank.cells c.args.bank.now) c.args.space (sym c.size.ensures ∙ c.if-size.false ∙ c.size-2.ensures.value)
-    (ap is_collecting (sym c.mode-mode.ensures.value) ∙ not_collecting c.mode-mode.result c.in-default.not-Collecting)
-    (ap (λ n. all_nodes (take n (g.B.Bank.cells c.args.bank.now))) (sym c.mark.ensures.value) ∙ sym c.if-not-all-nodes.ensures)
+    (ap is_collecting (sym c.mode-mode.ensures.value) ∙ not_collecting c.mode-mode.result c.in_default.not-Collecting)
+    (ap (λ n. all_nodes (take n (g.B.Bank.cells c.args.bank.now))) (sym c.mark.ensures.value) ∙ sym c.if-not-all_nodes.ensures)
 
 pub returns-in-Working : goal.returns-in-Working
 returns-in-Working g c =
     row_working (view c.args.record.now) (g.B.Bank.cells c.args.bank.now) c.args.space (sym c.size.ensures ∙ c.if-size.false ∙ c.size-2.ensures.value)
-    (ap is_collecting (sym c.mode-mode.ensures.value) ∙ not_collecting c.mode-mode.result c.in-default.not-Collecting)
-    (ap (λ n. all_nodes (take n (g.B.Bank.cells c.args.bank.now))) (sym c.mark.ensures.value) ∙ sym c.if-not-all-nodes.ensures)
+    (ap is_collecting (sym c.mode-mode.ensures.value) ∙ not_collecting c.mode-mode.result c.in_default.not-Collecting)
+    (ap (λ n. all_nodes (take n (g.B.Bank.cells c.args.bank.now))) (sym c.mark.ensures.value) ∙ sym c.if-not-all_nodes.ensures)
     (sym (ap is_working c.in-Working.ensures.value))
 
-pub returns-then-space-image-length : goal.returns-then-space-image-length
-returns-then-space-image-length g c =
+pub returns-then-space-image_length : goal.returns-then-space-image_length
+returns-then-space-image_length g c =
     row_short (view c.args.record.now) (g.B.Bank.cells c.args.bank.now) c.args.space (sym c.size.ensures ∙ c.if-size.false ∙ c.size-2.ensures.value)
-    (ap is_collecting (sym c.mode-mode.ensures.value) ∙ not_collecting c.mode-mode.result c.in-default.not-Collecting)
-    (ap (λ n. all_nodes (take n (g.B.Bank.cells c.args.bank.now))) (sym c.mark.ensures.value) ∙ sym c.if-not-all-nodes.ensures)
-    (ap is_working (sym c.mode-mode.ensures.value) ∙ not_working c.mode-mode.result c.in-default-mode.not-Working)
+    (ap is_collecting (sym c.mode-mode.ensures.value) ∙ not_collecting c.mode-mode.result c.in_default.not-Collecting)
+    (ap (λ n. all_nodes (take n (g.B.Bank.cells c.args.bank.now))) (sym c.mark.ensures.value) ∙ sym c.if-not-all_nodes.ensures)
+    (ap is_working (sym c.mode-mode.ensures.value) ∙ not_working c.mode-mode.result c.in_default-mode.not-Working)
     (omega arith)
 
 pub returns : goal.returns
 returns g c =
     row_none (view c.args.record.now) (g.B.Bank.cells c.args.bank.now) c.args.space (sym c.size.ensures ∙ c.if-size.false ∙ c.size-2.ensures.value)
-    (ap is_collecting (sym c.mode-mode.ensures.value) ∙ not_collecting c.mode-mode.result c.in-default.not-Collecting)
-    (ap (λ n. all_nodes (take n (g.B.Bank.cells c.args.bank.now))) (sym c.mark.ensures.value) ∙ sym c.if-not-all-nodes.ensures)
-    (ap is_working (sym c.mode-mode.ensures.value) ∙ not_working c.mode-mode.result c.in-default-mode.not-Working)
+    (ap is_collecting (sym c.mode-mode.ensures.value) ∙ not_collecting c.mode-mode.result c.in_default.not-Collecting)
+    (ap (λ n. all_nodes (take n (g.B.Bank.cells c.args.bank.now))) (sym c.mark.ensures.value) ∙ sym c.if-not-all_nodes.ensures)
+    (ap is_working (sym c.mode-mode.ensures.value) ∙ not_working c.mode-mode.result c.in_default-mode.not-Working)
     (omega arith)

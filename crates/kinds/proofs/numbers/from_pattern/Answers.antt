@@ -7,16 +7,16 @@ use Rattle.kinds.specs.Numbers.{plain, taken_number}
 use Rattle.kinds.specs.NumberFacts.{plain_by_pattern, plain_number}
 use Rattle.kinds.proofs.numbers.from_pattern.Goals as goal
 
-passed : (c : goal.Then-is-plain) → plain (of_bits binary32 c.args.bits) ≡ true
-passed c = plain_by_pattern c.args.bits c.ranges.bits.fits ∙ sym c.if-is-plain.ensures
+passed : (c : goal.Then-is_plain) → plain (of_bits binary32 c.args.bits) ≡ true
+passed c = plain_by_pattern c.args.bits c.ranges.bits.fits ∙ sym c.if-is_plain.ensures
 
-pub float-from-bits-result : goal.float-from-bits-result
-float-from-bits-result c = subst (λ b. T (not b)) (sym (nan_bits_is binary32 c.args.bits)) (plain_number (of_bits binary32 c.args.bits) (passed c))
+pub float-from_bits-result : goal.float-from_bits-result
+float-from_bits-result c = subst (λ b. T (not b)) (sym (nan_bits_is binary32 c.args.bits)) (plain_number (of_bits binary32 c.args.bits) (passed c))
 
-pub returns-then-is-plain : goal.returns-then-is-plain
+pub returns-then-is_plain : goal.returns-then-is_plain
 unfolding taken_number
-returns-then-is-plain c = let p = passed c in grind (arith, nat_tests)
+returns-then-is_plain c = let p = passed c in grind (arith, nat_tests)
 
-pub returns-else-is-plain : goal.returns-else-is-plain
+pub returns-else-is_plain : goal.returns-else-is_plain
 unfolding taken_number
-returns-else-is-plain c = let p = plain_by_pattern c.args.bits c.ranges.bits.fits ∙ sym c.if-is-plain.ensures in grind (arith, nat_tests)
+returns-else-is_plain c = let p = plain_by_pattern c.args.bits c.ranges.bits.fits ∙ sym c.if-is_plain.ensures in grind (arith, nat_tests)

@@ -26,5 +26,5 @@ returns-in-Ok-new g c =
 pub returns-in-Err : goal.returns-in-Err
 returns-in-Err g c = record { replayed = c.in-Err.ensures; fits = tt; law = the_law g.met.V.LeafKind.laws }
 
-pub returns-in-default : goal.returns-in-default
-returns-in-default g c = record { replayed = tt; fits = tt; law = the_law g.met.V.LeafKind.laws }
+pub returns-in_default : goal.returns-in_default
+returns-in_default g c = record { replayed = tt; fits = tt; law = the_law g.met.V.LeafKind.laws }

@@ -9,5 +9,5 @@ pub unreachable-requires : goal.unreachable-requires
 unreachable-requires g c =
     let olds = g.O.Bank.cells c.args.working.now in
     let news = g.N.Bank.cells c.args.spare.now in
-    let idle = began_idle (banks_at (view c.args.self.now.store) olds news) (banks_at (view c.begin.new.store) olds news) news c.in-ok-ticket.ensures in
+    let idle = began_idle (banks_at (view c.args.self.now.store) olds news) (banks_at (view c.begin.new.store) olds news) news c.in_ok-ticket.ensures in
     yes_no (sym c.args.self.now.held ∙ ap is_some (sym c.replace.ensures.value ∙ c.in-Some.is)) idle

@@ -4,8 +4,8 @@ use Rattle.runs.specs.Scripts.{call_of}
 use Rattle.runs.proofs.Keeping.{edit_keeps}
 use Rattle.runs.proofs.keepers.Keeper.edit.Goals as goal
 
-pub invariant-of-self : goal.invariant-of-self
-invariant-of-self g c = (
+pub invariant_of-self : goal.invariant_of-self
+invariant_of-self g c = (
   c.args.self.now.held
       ∙ sym (edit_keeps g.V.LeafKind.tidied (view c.args.self.now.store) (view c.edit.new.store) (g.W.Bank.cells c.args.working.now) (g.W.Bank.cells c.edit.new.working) (call_of c.args.call) c.edit.ensures.edited.after),
   tt,

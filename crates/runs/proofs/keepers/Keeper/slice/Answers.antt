@@ -4,10 +4,10 @@ use Rattle.runs.specs.Scripts.{idle_cause}
 use Rattle.runs.proofs.Keeping.{slice_idle}
 use Rattle.runs.proofs.keepers.Keeper.slice.Goals as goal
 
-pub returns-in-default : goal.returns-in-default
-returns-in-default g c =
+pub returns-in_default : goal.returns-in_default
+returns-in_default g c =
     let m = view c.args.self.now.store in
     let olds = g.O.Bank.cells c.args.old.now in
-    let idle = sym c.args.self.now.held ∙ ap is_some c.in-default.is in
-    let why = c.idle-cause.ensures ∙ ap (λ n. idle_cause m.size n c.size-in-default.result) c.size.ensures ∙ ap (idle_cause m.size (length olds)) c.size-in-default.ensures in
-    record { acts = slice_idle m olds (g.N.Bank.cells c.args.new.now) c.idle-cause.result idle c.args.budget why; old-rooted = refl; new-rooted = refl }
+    let idle = sym c.args.self.now.held ∙ ap is_some c.in_default.is in
+    let why = c.idle_cause.ensures ∙ ap (λ n. idle_cause m.size n c.size-in_default.result) c.size.ensures ∙ ap (idle_cause m.size (length olds)) c.size-in_default.ensures in
+    record { acts = slice_idle m olds (g.N.Bank.cells c.args.new.now) c.idle_cause.result idle c.args.budget why; old_rooted = refl; new_rooted = refl }

@@ -10,11 +10,11 @@ use Rattle.store.specs.Parts.{changed}
 use Rattle.store.proofs.Calling.{sticky_held, put_size, turned_away, let_in, accepted, copies, copies_itself}
 use Rattle.store.proofs.record.Record.copy.Goals as goal
 
-pub returns-in-err-admit : goal.returns-in-err-admit
-returns-in-err-admit g c =
+pub returns-in_err-admit : goal.returns-in_err-admit
+returns-in_err-admit g c =
     let p = err_from_is_err_and c.from-residual.result c.from-residual.ensures.1 in
     let t = turned_away g.V.LeafKind.tidied (view c.args.self.now) (g.B.Bank.cells c.args.bank.now) (copy c.args.h c.args.g) c.args.h c.args.g c.size.result
-    (told c.from-residual.result) p.0 c.in-err-admit.field-0.0 refl c.size.ensures c.in-err-admit.ensures (ap told p.1) p.2 in
+    (told c.from-residual.result) p.0 c.in_err-admit.field-0.0 refl c.size.ensures c.in_err-admit.ensures (ap told p.1) p.2 in
     record { called = t }
 
 pub returns-then-h-g : goal.returns-then-h-g
@@ -22,24 +22,24 @@ returns-then-h-g g c =
     let m = view c.args.self.now in
     let cs = g.B.Bank.cells c.args.bank.now in
     let tidied = g.V.LeafKind.tidied in
-    let in_order = let_in tidied m cs (copy c.args.h c.args.g) c.args.h c.args.g c.size.result c.in-ok-admit.field-0 refl c.size.ensures c.in-ok-admit.ensures in
+    let in_order = let_in tidied m cs (copy c.args.h c.args.g) c.args.h c.args.g c.size.result c.in_ok-admit.field-0 refl c.size.ensures c.in_ok-admit.ensures in
     record { called = accepted tidied m cs (copy c.args.h c.args.g) _ _ cs in_order refl (copies_itself g.V.LeafKind.lawful tidied m cs c.args.h c.args.g (eq-eqb c.args.h c.args.g c.if-h-g.true)) }
 
 pub change-requires : goal.change-requires
 change-requires g c =
     let m = view c.args.self.now in
-    let f = c.made-sticky-field.result in
-    let size = ap (λ x. x.size) c.let-go.ensures ∙ put_size m (view c.put-hand.new.self) c.args.g f c.put-hand.ensures.after in
-    sticky_held m c.let-go.new.self.size c.args.g f c.args.self.now.held (c.made-sticky-field.ensures ∙ ap made_sticky c.hand.ensures) size
+    let f = c.made_sticky-field.result in
+    let size = ap (λ x. x.size) c.let_go.ensures ∙ put_size m (view c.put_hand.new.self) c.args.g f c.put_hand.ensures.after in
+    sticky_held m c.let_go.new.self.size c.args.g f c.args.self.now.held (c.made_sticky-field.ensures ∙ ap made_sticky c.hand.ensures) size
 
 pub returns : goal.returns
 returns g c =
     let m = view c.args.self.now in
     let cs = g.B.Bank.cells c.args.bank.now in
     let tidied = g.V.LeafKind.tidied in
-    let in_order = let_in tidied m cs (copy c.args.h c.args.g) c.args.h c.args.g c.size.result c.in-ok-admit.field-0 refl c.size.ensures c.in-ok-admit.ensures in
-    let f : c.made-sticky-field.result ≡ made_sticky (hand_of m c.args.g) = c.made-sticky-field.ensures ∙ ap made_sticky c.hand.ensures in
+    let in_order = let_in tidied m cs (copy c.args.h c.args.g) c.args.h c.args.g c.size.result c.in_ok-admit.field-0 refl c.size.ensures c.in_ok-admit.ensures in
+    let f : c.made_sticky-field.result ≡ made_sticky (hand_of m c.args.g) = c.made_sticky-field.ensures ∙ ap made_sticky c.hand.ensures in
     let inside = sticky_held m m.size c.args.g (made_sticky (hand_of m c.args.g)) c.args.self.now.held refl refl in
-    let leaves = copies g.V.LeafKind.lawful tidied m cs (view c.put-hand.new.self) (view c.let-go.new.self) (view c.change.new.self) c.args.h c.args.g (ne_eqb c.args.h c.args.g c.if-h-g.false) inside
-    (c.put-hand.ensures.after ∙ ap (hand_put m c.args.g) f) (c.let-go.ensures ∙ ap (field_let_go (view c.put-hand.new.self)) c.hand-held.ensures) (c.change.ensures ∙ ap (changed (view c.let-go.new.self) c.args.h) f) in
+    let leaves = copies g.V.LeafKind.lawful tidied m cs (view c.put_hand.new.self) (view c.let_go.new.self) (view c.change.new.self) c.args.h c.args.g (ne_eqb c.args.h c.args.g c.if-h-g.false) inside
+    (c.put_hand.ensures.after ∙ ap (hand_put m c.args.g) f) (c.let_go.ensures ∙ ap (field_let_go (view c.put_hand.new.self)) c.hand-held.ensures) (c.change.ensures ∙ ap (changed (view c.let_go.new.self) c.args.h) f) in
     record { called = accepted tidied m cs (copy c.args.h c.args.g) _ (view c.change.new.self) cs in_order refl leaves }

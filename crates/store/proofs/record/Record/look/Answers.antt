@@ -8,27 +8,27 @@ use Rattle.graph.specs.Places.{is_node}
 use Rattle.store.proofs.Calling.{turned_away, let_in, looks_nil, looks_past, looks_wrong, looks_at, once}
 use Rattle.store.proofs.record.Record.look.Goals as goal
 
-pub returns-in-err-admit : goal.returns-in-err-admit
-returns-in-err-admit g c =
+pub returns-in_err-admit : goal.returns-in_err-admit
+returns-in_err-admit g c =
     let p = err_from_is_err_and c.from-residual.result c.from-residual.ensures.1 in
     let t = turned_away g.V.LeafKind.tidied (view c.args.self.now) (g.B.Bank.cells c.args.bank.now) (look c.args.h) c.args.h c.args.h c.size.result
-    (seen c.from-residual.result) p.0 c.in-err-admit.field-0.0 (once (ltb 15 c.args.h)) c.size.ensures c.in-err-admit.ensures (ap seen p.1) p.2 in
+    (seen c.from-residual.result) p.0 c.in_err-admit.field-0.0 (once (ltb 15 c.args.h)) c.size.ensures c.in_err-admit.ensures (ap seen p.1) p.2 in
     record { called = t }
 
-pub returns-in-default : goal.returns-in-default
-returns-in-default g c =
+pub returns-in_default : goal.returns-in_default
+returns-in_default g c =
     let m = view c.args.self.now in
     let cs = g.B.Bank.cells c.args.bank.now in
     let tidied = g.V.LeafKind.tidied in
-    let in_order = let_in tidied m cs (look c.args.h) c.args.h c.args.h c.size.result c.in-ok-admit.field-0 (once (ltb 15 c.args.h)) c.size.ensures c.in-ok-admit.ensures in
-    record { called = looks_nil g.V.LeafKind.lawful tidied m cs c.args.h in_order (sym c.in-default.ensures) }
+    let in_order = let_in tidied m cs (look c.args.h) c.args.h c.args.h c.size.result c.in_ok-admit.field-0 (once (ltb 15 c.args.h)) c.size.ensures c.in_ok-admit.ensures in
+    record { called = looks_nil g.V.LeafKind.lawful tidied m cs c.args.h in_order (sym c.in_default.ensures) }
 
 pub returns-then-r-self : goal.returns-then-r-self
 returns-then-r-self g c =
     let m = view c.args.self.now in
     let cs = g.B.Bank.cells c.args.bank.now in
     let tidied = g.V.LeafKind.tidied in
-    let in_order = let_in tidied m cs (look c.args.h) c.args.h c.args.h c.size.result c.in-ok-admit.field-0 (once (ltb 15 c.args.h)) c.size.ensures c.in-ok-admit.ensures in
+    let in_order = let_in tidied m cs (look c.args.h) c.args.h c.args.h c.size.result c.in_ok-admit.field-0 (once (ltb 15 c.args.h)) c.size.ensures c.in_ok-admit.ensures in
     record { called = looks_past g.V.LeafKind.lawful tidied m cs c.args.h c.in-To.r in_order (sym c.in-To.ensures) c.if-r-self.true }
 
 pub returns-in-Pair : goal.returns-in-Pair
@@ -36,15 +36,15 @@ returns-in-Pair g c =
     let m = view c.args.self.now in
     let cs = g.B.Bank.cells c.args.bank.now in
     let tidied = g.V.LeafKind.tidied in
-    let in_order = let_in tidied m cs (look c.args.h) c.args.h c.args.h c.size.result c.in-ok-admit.field-0 (once (ltb 15 c.args.h)) c.size.ensures c.in-ok-admit.ensures in
-    record { called = simp (c.is-nil.ensures, c.is-nil-in-Pair.ensures) (looks_at g.V.LeafKind.lawful tidied m cs c.args.h c.in-To.r (Pair c.in-Pair.left c.in-Pair.right) in_order (sym c.in-To.ensures) c.if-r-self.false c.in-Pair.ensures.found refl) }
+    let in_order = let_in tidied m cs (look c.args.h) c.args.h c.args.h c.size.result c.in_ok-admit.field-0 (once (ltb 15 c.args.h)) c.size.ensures c.in_ok-admit.ensures in
+    record { called = simp (c.is_nil.ensures, c.is_nil-in-Pair.ensures) (looks_at g.V.LeafKind.lawful tidied m cs c.args.h c.in-To.r (Pair c.in-Pair.left c.in-Pair.right) in_order (sym c.in-To.ensures) c.if-r-self.false c.in-Pair.ensures.found refl) }
 
 pub returns-in-Leaf : goal.returns-in-Leaf
 returns-in-Leaf g c =
     let m = view c.args.self.now in
     let cs = g.B.Bank.cells c.args.bank.now in
     let tidied = g.V.LeafKind.tidied in
-    let in_order = let_in tidied m cs (look c.args.h) c.args.h c.args.h c.size.result c.in-ok-admit.field-0 (once (ltb 15 c.args.h)) c.size.ensures c.in-ok-admit.ensures in
+    let in_order = let_in tidied m cs (look c.args.h) c.args.h c.args.h c.size.result c.in_ok-admit.field-0 (once (ltb 15 c.args.h)) c.size.ensures c.in_ok-admit.ensures in
     record { called = looks_at g.V.LeafKind.lawful tidied m cs c.args.h c.in-To.r (Leaf c.in-Leaf.v) in_order (sym c.in-To.ensures) c.if-r-self.false c.in-Leaf.ensures.found refl }
 
 pub returns-in-Blank : goal.returns-in-Blank
@@ -52,5 +52,5 @@ returns-in-Blank g c =
     let m = view c.args.self.now in
     let cs = g.B.Bank.cells c.args.bank.now in
     let tidied = g.V.LeafKind.tidied in
-    let in_order = let_in tidied m cs (look c.args.h) c.args.h c.args.h c.size.result c.in-ok-admit.field-0 (once (ltb 15 c.args.h)) c.size.ensures c.in-ok-admit.ensures in
-    record { called = looks_wrong g.V.LeafKind.lawful tidied m cs c.args.h c.in-To.r c.cell-at.result in_order (sym c.in-To.ensures) c.cell-at.ensures.found (elim c.in-Blank.is [ inl e ↦ ap is_node e | inr e ↦ ap is_node e.2 ]) }
+    let in_order = let_in tidied m cs (look c.args.h) c.args.h c.args.h c.size.result c.in_ok-admit.field-0 (once (ltb 15 c.args.h)) c.size.ensures c.in_ok-admit.ensures in
+    record { called = looks_wrong g.V.LeafKind.lawful tidied m cs c.args.h c.in-To.r c.cell_at.result in_order (sym c.in-To.ensures) c.cell_at.ensures.found (elim c.in-Blank.is [ inl e ↦ ap is_node e | inr e ↦ ap is_node e.2 ]) }

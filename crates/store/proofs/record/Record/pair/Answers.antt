@@ -6,11 +6,11 @@ use Rattle.store.specs.Called.{told}
 use Rattle.store.proofs.Calling.{turned_away, let_in, accepted, once, pairs}
 use Rattle.store.proofs.record.Record.pair.Goals as goal
 
-pub returns-in-err-admit : goal.returns-in-err-admit
-returns-in-err-admit g c =
+pub returns-in_err-admit : goal.returns-in_err-admit
+returns-in_err-admit g c =
     let p = err_from_is_err_and c.from-residual.result c.from-residual.ensures.1 in
     let t = turned_away g.V.LeafKind.tidied (view c.args.self.now) (g.B.Bank.cells c.args.bank.now) (pair c.args.h) c.args.h c.args.h c.size.result
-    (told c.from-residual.result) p.0 c.in-err-admit.field-0.0 (once (ltb 15 c.args.h)) c.size.ensures c.in-err-admit.ensures (ap told p.1) p.2 in
+    (told c.from-residual.result) p.0 c.in_err-admit.field-0.0 (once (ltb 15 c.args.h)) c.size.ensures c.in_err-admit.ensures (ap told p.1) p.2 in
     record { called = t; rooted = refl }
 
 pub returns : goal.returns
@@ -18,7 +18,7 @@ returns g c =
     let m = view c.args.self.now in
     let cs = g.B.Bank.cells c.args.bank.now in
     let tidied = g.V.LeafKind.tidied in
-    let in_order = let_in tidied m cs (pair c.args.h) c.args.h c.args.h c.size.result c.in-ok-admit.field-0 (once (ltb 15 c.args.h)) c.size.ensures c.in-ok-admit.ensures in
+    let in_order = let_in tidied m cs (pair c.args.h) c.args.h c.args.h c.size.result c.in_ok-admit.field-0 (once (ltb 15 c.args.h)) c.size.ensures c.in_ok-admit.ensures in
     record {
       called = pairs g.V.LeafKind.lawful tidied m cs c.args.h c.place.result (view c.place.new.self) (g.B.Bank.cells c.place.new.bank) in_order c.place.ensures.answer c.place.ensures.after;
       rooted = c.place.ensures.rooted;

@@ -2,5 +2,5 @@ use Rattle.std.proofs.Common.{rules}
 use Rattle.store.proofs.Keeping.{keeps_hands}
 use Rattle.store.proofs.record.Record.put_hand.Goals as goal
 
-pub invariant-of-self : goal.invariant-of-self
-invariant-of-self c = search (rules, keeps_hands)
+pub invariant_of-self : goal.invariant_of-self
+invariant_of-self c = search (rules, keeps_hands)

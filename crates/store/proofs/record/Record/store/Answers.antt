@@ -12,39 +12,39 @@ use Rattle.store.specs.Parts.{side_in, with_in, changed}
 use Rattle.store.proofs.Calling.{turned_away, let_in, accepted, stores, aims_badly, aims_well, aimed, sticky_held}
 use Rattle.store.proofs.record.Record.store.Goals as goal
 
-pub returns-in-err-admit : goal.returns-in-err-admit
-returns-in-err-admit g c =
+pub returns-in_err-admit : goal.returns-in_err-admit
+returns-in_err-admit g c =
     let p = err_from_is_err_and c.from-residual.result c.from-residual.ensures.1 in
     let t = turned_away g.V.LeafKind.tidied (view c.args.self.now) (g.B.Bank.cells c.args.bank.now) (store c.args.g c.args.side c.args.h) c.args.h c.args.g c.size.result
-    (told c.from-residual.result) p.0 c.in-err-admit.field-0.0 refl c.size.ensures c.in-err-admit.ensures (ap told p.1) p.2 in
+    (told c.from-residual.result) p.0 c.in_err-admit.field-0.0 refl c.size.ensures c.in_err-admit.ensures (ap told p.1) p.2 in
     record { called = t; rooted = refl }
 
-pub returns-in-err-target : goal.returns-in-err-target
-returns-in-err-target g c =
+pub returns-in_err-target : goal.returns-in_err-target
+returns-in_err-target g c =
     let m = view c.args.self.now in
     let cs = g.B.Bank.cells c.args.bank.now in
     let tidied = g.V.LeafKind.tidied in
-    let in_order = let_in tidied m cs (store c.args.g c.args.side c.args.h) c.args.h c.args.g c.size.result c.in-ok-admit.field-0 refl c.size.ensures c.in-ok-admit.ensures in
-    let p = err_from_is_err_and c.from-residual-in-err-target.result c.from-residual-in-err-target.ensures.1 in
-    let t = aims_badly tidied m cs (store c.args.g c.args.side c.args.h) c.args.g (astray m.mark cs (hand_of m c.args.g)) in_order (told c.from-residual-in-err-target.result) p.0 c.in-err-target.field-0.0 (λ x. x) c.in-err-target.ensures (ap told p.1) p.2 in
+    let in_order = let_in tidied m cs (store c.args.g c.args.side c.args.h) c.args.h c.args.g c.size.result c.in_ok-admit.field-0 refl c.size.ensures c.in_ok-admit.ensures in
+    let p = err_from_is_err_and c.from-residual-in_err-target.result c.from-residual-in_err-target.ensures.1 in
+    let t = aims_badly tidied m cs (store c.args.g c.args.side c.args.h) c.args.g (astray m.mark cs (hand_of m c.args.g)) in_order (told c.from-residual-in_err-target.result) p.0 c.in_err-target.field-0.0 (λ x. x) c.in_err-target.ensures (ap told p.1) p.2 in
     record { called = t; rooted = refl }
 
 pub change-requires : goal.change-requires
 change-requires g c =
     let m = view c.args.self.now in
-    sticky_held m c.let-go.new.self.size c.args.h c.made-sticky-field.result c.args.self.now.held (c.made-sticky-field.ensures ∙ ap made_sticky c.hand.ensures) (ap (λ x. x.size) c.let-go.ensures)
+    sticky_held m c.let_go.new.self.size c.args.h c.made_sticky-field.result c.args.self.now.held (c.made_sticky-field.ensures ∙ ap made_sticky c.hand.ensures) (ap (λ x. x.size) c.let_go.ensures)
 
 pub returns : goal.returns
 returns g c =
     let m = view c.args.self.now in
     let cs = g.B.Bank.cells c.args.bank.now in
     let tidied = g.V.LeafKind.tidied in
-    let in_order = let_in tidied m cs (store c.args.g c.args.side c.args.h) c.args.h c.args.g c.size.result c.in-ok-admit.field-0 refl c.size.ensures c.in-ok-admit.ensures in
-    let t = c.in-ok-target.target in
-    let aim = aimed m.mark cs (hand_of m c.args.g) t (sym c.in-ok-target.ensures) in
-    let cause = aims_well tidied m cs (store c.args.g c.args.side c.args.h) c.args.g (astray m.mark cs (hand_of m c.args.g)) in_order t c.in-ok-target.ensures aim.straight in
-    let f : c.made-sticky-field.result ≡ made_sticky (hand_of m c.args.h) = c.made-sticky-field.ensures ∙ ap made_sticky c.hand.ensures in
+    let in_order = let_in tidied m cs (store c.args.g c.args.side c.args.h) c.args.h c.args.g c.size.result c.in_ok-admit.field-0 refl c.size.ensures c.in_ok-admit.ensures in
+    let t = c.in_ok-target.target in
+    let aim = aimed m.mark cs (hand_of m c.args.g) t (sym c.in_ok-target.ensures) in
+    let cause = aims_well tidied m cs (store c.args.g c.args.side c.args.h) c.args.g (astray m.mark cs (hand_of m c.args.g)) in_order t c.in_ok-target.ensures aim.straight in
+    let f : c.made_sticky-field.result ≡ made_sticky (hand_of m c.args.h) = c.made_sticky-field.ensures ∙ ap made_sticky c.hand.ensures in
     let there = c.put.ensures.after ∙ ap (after_put g.V.LeafKind.lawful cs t.address) (c.with.ensures ∙ ap (λ x. with_in c.args.side x t) f) in
-    let leaves = stores g.V.LeafKind.lawful tidied m cs (view c.let-go.new.self) (view c.change.new.self) (g.B.Bank.cells c.put.new.self) c.args.h c.args.g c.args.side t aim there
-    (c.let-go.ensures ∙ ap (field_let_go m) c.side.ensures) (c.change.ensures ∙ ap (changed (view c.let-go.new.self) c.args.h) f) in
+    let leaves = stores g.V.LeafKind.lawful tidied m cs (view c.let_go.new.self) (view c.change.new.self) (g.B.Bank.cells c.put.new.self) c.args.h c.args.g c.args.side t aim there
+    (c.let_go.ensures ∙ ap (field_let_go m) c.side.ensures) (c.change.ensures ∙ ap (changed (view c.let_go.new.self) c.args.h) f) in
     record { called = accepted tidied m cs (store c.args.g c.args.side c.args.h) _ (view c.change.new.self) (g.B.Bank.cells c.put.new.self) cause refl leaves; rooted = c.put.ensures.rooted }

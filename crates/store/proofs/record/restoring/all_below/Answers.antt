@@ -11,8 +11,8 @@ use Rattle.store.proofs.record.restoring.all_below.Goals as goal
 next : (n : ℕ) (fs : List Field) (i : ℕ) → i < length fs → hands_below n (drop i fs) ≡ (not (past n (get_or fs i Nil)) && hands_below n (drop (i + 1) fs))
 next n fs i h = at_drop_more (hands_below n) fs i Nil h
 
-pub returns-then-is-past : goal.returns-then-is-past
-returns-then-is-past c = let e = next c.args.bound c.args.fields.now c.loop-field.field-index (omega arith) in grind (arith, nat_tests)
+pub returns-then-is_past : goal.returns-then-is_past
+returns-then-is_past c = let e = next c.args.bound c.args.fields.now c.loop-field.field-index (omega arith) in grind (arith, nat_tests)
 
 pub loop-field-preserved : goal.loop-field-preserved
 loop-field-preserved c = let e = next c.args.bound c.args.fields.now c.loop-field.field-index (omega arith) in grind (arith, nat_tests)

@@ -21,4 +21,4 @@ returns-then-words-ne3 c =
     not_counted 3 ws (ReadsInstruction (get_or (word_bytes ws) 0 []) (get_or (word_bytes ws) 1 []) (get_or (word_bytes ws) 2 []) None) c.if-words-ne3.true
 
 pub returns : goal.returns
-returns c = three c.args.words.now _ _ _ c.read-instruction.result c.if-words-ne3.false c.read-instruction.ensures
+returns c = three c.args.words.now _ _ _ c.read_instruction.result c.if-words-ne3.false c.read_instruction.ensures
