@@ -12,10 +12,10 @@ returns-in_err-under_way g c =
     let m = view c.args.store.now in
     let olds = g.O.Bank.cells c.args.old.now in
     let news = g.N.Bank.cells c.args.new.now in
-    let p = err_from_is_err_and c.from-residual.result c.from-residual.ensures.1 in
+    let p = err_from_is_err_and c.from_residual.result c.from_residual.ensures.1 in
     let why = c.in_err-under_way.ensures ∙ ap (λ n. under_way m n c.size-2.result) c.size.ensures ∙ ap (under_way m (length olds)) c.size-2.ensures in
     record {
-      acted = slice_refused m olds news c.args.budget (sliced_reply c.from-residual.result) p.0 c.in_err-under_way.field-0.0 why (ap sliced_reply p.1) p.2;
+      acted = slice_refused m olds news c.args.budget (sliced_reply c.from_residual.result) p.0 c.in_err-under_way.field-0.0 why (ap sliced_reply p.1) p.2;
       old_rooted = refl;
       new_rooted = refl;
     }

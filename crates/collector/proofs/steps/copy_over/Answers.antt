@@ -13,8 +13,8 @@ returns-in_err-turn g c =
     let news = g.N.Bank.cells c.args.new.now in
     let v = c.args.visit in
     let at = c.requires.visiting in
-    let p = err_from_is_err_and c.from-residual.result c.from-residual.ensures.1 in
-    let w = copy_refused m v.steps v.copied v.marks at.mode at.left olds news (λ t. copied_over t c.args.met c.args.cell.now) c.is_sticky-marks.result (view c.turn.new.self) c.from-residual.result
+    let p = err_from_is_err_and c.from_residual.result c.from_residual.ensures.1 in
+    let w = copy_refused m v.steps v.copied v.marks at.mode at.left olds news (λ t. copied_over t c.args.met c.args.cell.now) c.is_sticky-marks.result (view c.turn.new.self) c.from_residual.result
     p.0 c.in_err-turn.field-0.0 c.in_err-turn.ensures.answer c.turn.ensures.after p.1 p.2 in
     record { went = w; old_rooted = refl; new_rooted = refl }
 

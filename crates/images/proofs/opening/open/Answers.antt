@@ -17,8 +17,8 @@ returns-then-size-eq0 g c =
 
 pub returns-in_err-check : goal.returns-in_err-check
 returns-in_err-check g c =
-    let p = err_from_is_err_and c.from-residual.result c.from-residual.ensures.1 in
-    let is : viewed c.from-residual.result ≡ Err NotAnImage = ap viewed (p.1 ∙ ap Err (p.2 ∙ c.in_err-check.ensures.checked.0)) in
+    let p = err_from_is_err_and c.from_residual.result c.from_residual.ensures.1 in
+    let is : viewed c.from_residual.result ≡ Err NotAnImage = ap viewed (p.1 ∙ ap Err (p.2 ∙ c.in_err-check.ensures.checked.0)) in
     let why : Refused g.V.LeafKind.lawful g.V.LeafKind.word g.V.LeafKind.taken g.V.LeafKind.number (length (g.B.Bank.cells c.args.bank.now)) c.args.image.now NotAnImage = no_image (omega arith, omega arith) c.in_err-check.ensures.checked.1 in
     record {
       opened = subst (λ a. Opened g.V.LeafKind.lawful g.V.LeafKind.word g.V.LeafKind.taken g.V.LeafKind.number c.args.image.now (g.B.Bank.cells c.args.bank.now) a (g.B.Bank.cells c.args.bank.now)) (sym is) (why, refl);

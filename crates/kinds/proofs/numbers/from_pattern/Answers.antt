@@ -10,8 +10,8 @@ use Rattle.kinds.proofs.numbers.from_pattern.Goals as goal
 passed : (c : goal.Then-is_plain) → plain (of_bits binary32 c.args.bits) ≡ true
 passed c = plain_by_pattern c.args.bits c.ranges.bits.fits ∙ sym c.if-is_plain.ensures
 
-pub float-from_bits-result : goal.float-from_bits-result
-float-from_bits-result c = subst (λ b. T (not b)) (sym (nan_bits_is binary32 c.args.bits)) (plain_number (of_bits binary32 c.args.bits) (passed c))
+pub float_from_bits-result : goal.float_from_bits-result
+float_from_bits-result c = subst (λ b. T (not b)) (sym (nan_bits_is binary32 c.args.bits)) (plain_number (of_bits binary32 c.args.bits) (passed c))
 
 pub returns-then-is_plain : goal.returns-then-is_plain
 unfolding taken_number

@@ -12,9 +12,9 @@ use Rattle.store.proofs.record.Record.copy.Goals as goal
 
 pub returns-in_err-admit : goal.returns-in_err-admit
 returns-in_err-admit g c =
-    let p = err_from_is_err_and c.from-residual.result c.from-residual.ensures.1 in
+    let p = err_from_is_err_and c.from_residual.result c.from_residual.ensures.1 in
     let t = turned_away g.V.LeafKind.tidied (view c.args.self.now) (g.B.Bank.cells c.args.bank.now) (copy c.args.h c.args.g) c.args.h c.args.g c.size.result
-    (told c.from-residual.result) p.0 c.in_err-admit.field-0.0 refl c.size.ensures c.in_err-admit.ensures (ap told p.1) p.2 in
+    (told c.from_residual.result) p.0 c.in_err-admit.field-0.0 refl c.size.ensures c.in_err-admit.ensures (ap told p.1) p.2 in
     record { called = t }
 
 pub returns-then-h-g : goal.returns-then-h-g

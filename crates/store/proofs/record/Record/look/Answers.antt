@@ -10,9 +10,9 @@ use Rattle.store.proofs.record.Record.look.Goals as goal
 
 pub returns-in_err-admit : goal.returns-in_err-admit
 returns-in_err-admit g c =
-    let p = err_from_is_err_and c.from-residual.result c.from-residual.ensures.1 in
+    let p = err_from_is_err_and c.from_residual.result c.from_residual.ensures.1 in
     let t = turned_away g.V.LeafKind.tidied (view c.args.self.now) (g.B.Bank.cells c.args.bank.now) (look c.args.h) c.args.h c.args.h c.size.result
-    (seen c.from-residual.result) p.0 c.in_err-admit.field-0.0 (once (ltb 15 c.args.h)) c.size.ensures c.in_err-admit.ensures (ap seen p.1) p.2 in
+    (seen c.from_residual.result) p.0 c.in_err-admit.field-0.0 (once (ltb 15 c.args.h)) c.size.ensures c.in_err-admit.ensures (ap seen p.1) p.2 in
     record { called = t }
 
 pub returns-in_default : goal.returns-in_default

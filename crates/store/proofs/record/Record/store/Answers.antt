@@ -14,9 +14,9 @@ use Rattle.store.proofs.record.Record.store.Goals as goal
 
 pub returns-in_err-admit : goal.returns-in_err-admit
 returns-in_err-admit g c =
-    let p = err_from_is_err_and c.from-residual.result c.from-residual.ensures.1 in
+    let p = err_from_is_err_and c.from_residual.result c.from_residual.ensures.1 in
     let t = turned_away g.V.LeafKind.tidied (view c.args.self.now) (g.B.Bank.cells c.args.bank.now) (store c.args.g c.args.side c.args.h) c.args.h c.args.g c.size.result
-    (told c.from-residual.result) p.0 c.in_err-admit.field-0.0 refl c.size.ensures c.in_err-admit.ensures (ap told p.1) p.2 in
+    (told c.from_residual.result) p.0 c.in_err-admit.field-0.0 refl c.size.ensures c.in_err-admit.ensures (ap told p.1) p.2 in
     record { called = t; rooted = refl }
 
 pub returns-in_err-target : goal.returns-in_err-target
@@ -25,8 +25,8 @@ returns-in_err-target g c =
     let cs = g.B.Bank.cells c.args.bank.now in
     let tidied = g.V.LeafKind.tidied in
     let in_order = let_in tidied m cs (store c.args.g c.args.side c.args.h) c.args.h c.args.g c.size.result c.in_ok-admit.field-0 refl c.size.ensures c.in_ok-admit.ensures in
-    let p = err_from_is_err_and c.from-residual-in_err-target.result c.from-residual-in_err-target.ensures.1 in
-    let t = aims_badly tidied m cs (store c.args.g c.args.side c.args.h) c.args.g (astray m.mark cs (hand_of m c.args.g)) in_order (told c.from-residual-in_err-target.result) p.0 c.in_err-target.field-0.0 (λ x. x) c.in_err-target.ensures (ap told p.1) p.2 in
+    let p = err_from_is_err_and c.from_residual-in_err-target.result c.from_residual-in_err-target.ensures.1 in
+    let t = aims_badly tidied m cs (store c.args.g c.args.side c.args.h) c.args.g (astray m.mark cs (hand_of m c.args.g)) in_order (told c.from_residual-in_err-target.result) p.0 c.in_err-target.field-0.0 (λ x. x) c.in_err-target.ensures (ap told p.1) p.2 in
     record { called = t; rooted = refl }
 
 pub change-requires : goal.change-requires
