@@ -62,7 +62,7 @@ fn refusal_line(heap: Global, n: usize, cause: Cause) -> Result<String, AllocErr
 
 // The line of the report for an entry.
 pub fn entry_line<V: TypedLeaf>(heap: Global, entry: Entry<V>) -> Result<String, AllocError>
-    ensures { IfOk result (λ s. EntryLine V.LeafKind.lawful V.LeafKind.word shows entry.line entry.value (string_bytes s)) }
+    ensures { IfOk result (λ s. EntryLine V.lawful V.word V.shows entry.line entry.value (string_bytes s)) }
 {
     let value = match entry.value {
         Ok(value) => value,
@@ -135,7 +135,7 @@ pub enum ListFault {
 
 // The tidied value that words stand for, or its refusal; none where they are no numbers.
 fn read_value<V: TypedLeaf>(words: &[&str]) -> Option<Result<V, Cause>>
-    ensures { Value reads V.LeafKind.tidied (word_bytes words.now) result }
+    ensures { Value V.reads V.tidied (word_bytes words.now) result }
 {
     match V::of_words(words) {
         Some(Ok(raw)) => Some(raw.tidy()),
@@ -150,7 +150,7 @@ fn read_line<V: TypedLeaf>(
     line: &str,
     number: usize,
 ) -> Result<Option<Entry<V>>, ListFault>
-    ensures { Line reads V.LeafKind.tidied number (words_of line.now) result }
+    ensures { Line V.reads V.tidied number (words_of line.now) result }
 {
     let Ok(words) = split(heap, line, Separator::Space) else {
         return Err(ListFault::Memory);
@@ -169,7 +169,7 @@ fn read_line<V: TypedLeaf>(
 
 // The values of a text, one to a line; blank lines and lines that begin with # are passed over.
 pub fn read_list<V: TypedLeaf>(heap: Global, text: &str) -> Result<Vec<Entry<V>>, ListFault>
-    ensures { MatchResult result (λ v. Entries reads V.LeafKind.tidied text.now v.items) (λ fault. NoEntries reads V.LeafKind.tidied text.now fault) }
+    ensures { MatchResult result (λ v. Entries V.reads V.tidied text.now v.items) (λ fault. NoEntries V.reads V.tidied text.now fault) }
 {
     let Ok(lines) = split(heap, text, Separator::Newline) else {
         return Err(ListFault::Memory);

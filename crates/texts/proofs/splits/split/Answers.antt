@@ -53,7 +53,7 @@ returns c =
       | then-keeps-2+in_ok-push-2 w ↦
           last_kept c.args.by text start i c.loop-i.invariant.0 found c.loop-i.invariant.2 (word_bytes (vec_items c.if-keeps-2.pieces)) e (w.if-keeps-2.ensures ∙ ap (λ m. keeps c.args.by (m - start)) n)
           (ap (λ ps. word_bytes (vec_items ps)) w.pieces-is
-          ∙ one_more_lem (vec_items c.loop-i.pieces) (vec_items w.push-then-keeps-2.new.self) w.range-from.result (between start i text) w.in_ok-push-2.ensures.items (w.range-from.ensures.value ∙ sym (between_to_end text start i (omega arith))))
+          ∙ one_more_lem (vec_items c.loop-i.pieces) (vec_items w.push-then-keeps-2.new.self) w.range_from.result (between start i text) w.in_ok-push-2.ensures.items (w.range_from.ensures.value ∙ sym (between_to_end text start i (omega arith))))
       | else-keeps-2 w ↦
           ap (λ ps. word_bytes (vec_items ps)) w.pieces-is ∙ last_none c.args.by text start i c.loop-i.invariant.0 found c.loop-i.invariant.2 e (w.if-keeps-2.ensures ∙ ap (λ m. keeps c.args.by (m - start)) n)
     ]
