@@ -101,7 +101,7 @@ pub fn first_difference<V: LeafKind>(a: &[u8], b: &[u8]) -> Option<Difference>
 
 // A cell in words, or that there is none.
 fn found_text<V: TypedLeaf>(heap: Global, found: Option<Cell<V>>) -> Result<String, AllocError>
-    ensures { IfOk result (λ t. FoundText V.LeafKind.lawful V.LeafKind.word shows found (string_bytes t)) }
+    ensures { IfOk result (λ t. FoundText V.lawful V.word V.shows found (string_bytes t)) }
 {
     match found {
         Some(cell) => cell_text(heap, cell),
@@ -137,7 +137,7 @@ pub fn difference_line<V: TypedLeaf>(
     b: &[u8],
     difference: Difference,
 ) -> Result<String, AllocError>
-    ensures { IfOk result (λ t. DifferenceLine V.LeafKind.lawful V.LeafKind.word shows V.LeafKind.taken a.now b.now difference (string_bytes t)) }
+    ensures { IfOk result (λ t. DifferenceLine V.lawful V.word V.shows V.taken a.now b.now difference (string_bytes t)) }
 {
     match difference {
         Difference::Hand(i) => {

@@ -39,7 +39,7 @@ fn with_found<V: TypedLeaf>(tally: Tally, found: Option<Cell<V>>) -> Tally
 
 // How many of the first cells of an image there are of each kind.
 pub fn tally_of<V: TypedLeaf>(image: &[u8], count: u16) -> Tally
-    ensures { result ≡ tallied V.LeafKind.taken image.now count }
+    ensures { result ≡ tallied V.taken image.now count }
 {
     let mut tally = Tally::NONE;
     for at in 0..count {

@@ -12,7 +12,7 @@ returns-in-Ok-new g c =
     let script = c.args.script.now in
     let at = world_at (banks_of g.A.Bank.cells g.B.Bank.cells c.in-Ok-new.rig) in
     let start = c.in-Ok-new.ensures in
-    let empty = c.in-Ok.ensures.made.0 in
+    let empty = c.in-Ok.ensures.items in
     record {
       replayed = record {
         allowed = start.0;

@@ -17,10 +17,10 @@ pub invariant_of-self-in-Ok : goal.invariant_of-self-in-Ok
 invariant_of-self-in-Ok g c =
     let olds = g.O.Bank.cells c.args.old.now in
     let idle = abandoned_idle (banks_at (view c.args.self.now.store) olds []) (banks_at (view c.abandon.new.store) olds []) (c.in-Ok.ensures []) in
-    (ap is_some c.replace.ensures.after ∙ sym idle, tt)
+    record { held = ap is_some c.replace.ensures.after ∙ sym idle }
 
 pub invariant_of-self-in-Err : goal.invariant_of-self-in-Err
 invariant_of-self-in-Err g c =
     let olds = g.O.Bank.cells c.args.old.now in
     let same = abandon_refused (banks_at (view c.args.self.now.store) olds []) (banks_at (view c.abandon.new.store) olds []) c.in-Err.cause (c.in-Err.ensures []) in
-    (ap is_some c.replace-in-Err.ensures.after ∙ sym (ap is_some (sym c.replace.ensures.value ∙ c.in-Some.is)) ∙ c.args.self.now.held ∙ sym same, tt)
+    record { held = ap is_some c.replace-in-Err.ensures.after ∙ sym (ap is_some (sym c.replace.ensures.value ∙ c.in-Some.is)) ∙ c.args.self.now.held ∙ sym same }
