@@ -8,10 +8,10 @@ use Rattle.cells.specs.declared.causes.Cause.TheVariants.{OtherSize, NotCollecti
 use Rattle.cells.specs.declared.causes.Cause.TheVariants as causes
 use Rattle.store.specs.declared.Mode.{Mode}
 use Rattle.store.specs.declared.Mode.TheVariants.{Settled, Working, Collecting}
-use Rattle.store.specs.declared.turns.Event.TheVariants.{Begun, Finished, Abandoned}
+use Rattle.store.specs.declared.turns.Happening.TheVariants.{Begun, Finished, Abandoned}
 use Rattle.store.specs.Model.{Model, new_model, is_collecting}
 use Rattle.store.specs.Calls.{first, unless}
-use Rattle.store.specs.Turns.{with_mode, turn_answer, turned_model}
+use Rattle.store.specs.Advances.{with_mode, advance_answer, advanced_model}
 use Rattle.store.proofs.Calling.{once}
 use Rattle.collector.specs.Steps.{Tour, Stand, march}
 use Rattle.collector.specs.Collections.{Act, begin, slice, finish, abandon, Banks, Reply, ready, stepped_by, kept_marks, act_cause, act_reply, act_effect, tour_of, standing, settled, steps_of, copied_of, marks_of, march_all, whole}
@@ -51,15 +51,15 @@ answering yes-if c = cond yes-if (Ok tt) (Err c)
 mode_is : (m : Model) (x : Mode) → m.mode ≡ x → m ≡ with_mode m x
 mode_is m x e = ap (with_mode m) e
 
-begun_by : (m : Model) (x : Mode) → m.mode ≡ x → (turn_answer m Begun ≡ answering (not (is_collecting x)) causes.Collecting) × (turned_model m Begun ≡ cond (is_collecting x) m (with_mode m (Collecting 0 0 0)))
-begun_by m Settled e = (ap (λ y. turn_answer y Begun) (mode_is m Settled e), ap (λ y. turned_model y Begun) (mode_is m Settled e))
-begun_by m Working e = (ap (λ y. turn_answer y Begun) (mode_is m Working e), ap (λ y. turned_model y Begun) (mode_is m Working e))
-begun_by m (Collecting s c n) e = (ap (λ y. turn_answer y Begun) (mode_is m (Collecting s c n) e), ap (λ y. turned_model y Begun) (mode_is m (Collecting s c n) e) ∙ sym (mode_is m (Collecting s c n) e))
+begun_by : (m : Model) (x : Mode) → m.mode ≡ x → (advance_answer m Begun ≡ answering (not (is_collecting x)) causes.Collecting) × (advanced_model m Begun ≡ cond (is_collecting x) m (with_mode m (Collecting 0 0 0)))
+begun_by m Settled e = (ap (λ y. advance_answer y Begun) (mode_is m Settled e), ap (λ y. advanced_model y Begun) (mode_is m Settled e))
+begun_by m Working e = (ap (λ y. advance_answer y Begun) (mode_is m Working e), ap (λ y. advanced_model y Begun) (mode_is m Working e))
+begun_by m (Collecting s c n) e = (ap (λ y. advance_answer y Begun) (mode_is m (Collecting s c n) e), ap (λ y. advanced_model y Begun) (mode_is m (Collecting s c n) e) ∙ sym (mode_is m (Collecting s c n) e))
 
-abandoned_by : (m : Model) (x : Mode) → m.mode ≡ x → (turn_answer m Abandoned ≡ answering (is_collecting x) NotCollecting) × (turned_model m Abandoned ≡ cond (is_collecting x) (new_model m.size) m)
-abandoned_by m Settled e = (ap (λ y. turn_answer y Abandoned) (mode_is m Settled e), ap (λ y. turned_model y Abandoned) (mode_is m Settled e) ∙ sym (mode_is m Settled e))
-abandoned_by m Working e = (ap (λ y. turn_answer y Abandoned) (mode_is m Working e), ap (λ y. turned_model y Abandoned) (mode_is m Working e) ∙ sym (mode_is m Working e))
-abandoned_by m (Collecting s c n) e = (ap (λ y. turn_answer y Abandoned) (mode_is m (Collecting s c n) e), ap (λ y. turned_model y Abandoned) (mode_is m (Collecting s c n) e))
+abandoned_by : (m : Model) (x : Mode) → m.mode ≡ x → (advance_answer m Abandoned ≡ answering (is_collecting x) NotCollecting) × (advanced_model m Abandoned ≡ cond (is_collecting x) (new_model m.size) m)
+abandoned_by m Settled e = (ap (λ y. advance_answer y Abandoned) (mode_is m Settled e), ap (λ y. advanced_model y Abandoned) (mode_is m Settled e) ∙ sym (mode_is m Settled e))
+abandoned_by m Working e = (ap (λ y. advance_answer y Abandoned) (mode_is m Working e), ap (λ y. advanced_model y Abandoned) (mode_is m Working e) ∙ sym (mode_is m Working e))
+abandoned_by m (Collecting s c n) e = (ap (λ y. advance_answer y Abandoned) (mode_is m (Collecting s c n) e), ap (λ y. advanced_model y Abandoned) (mode_is m (Collecting s c n) e))
 
 -- ---- Begin and Abandon
 
@@ -85,7 +85,7 @@ module _ {V : Type 0} (m : Model) (old new : List (Cell V)) where
   unfolding act_cause
   begin_missized r e e' why is same = acted_refused (begin new) (banks_at m old new) r e e' (banks_at m old new) (both_rows sizes (is_collecting m.mode) causes.Collecting e' why) is same refl
 
-  pub begin_busy : (r : Result Reply Cause) (e e' : Cause) (u : Unit {0}) (m' : Model) → Ok u ≡ both_sized m (length old) (length new) → Err e' ≡ turn_answer m Begun → m' ≡ turned_model m Begun → r ≡ Err e → e ≡ e'
+  pub begin_busy : (r : Result Reply Cause) (e e' : Cause) (u : Unit {0}) (m' : Model) → Ok u ≡ both_sized m (length old) (length new) → Err e' ≡ advance_answer m Begun → m' ≡ advanced_model m Begun → r ≡ Err e → e ≡ e'
       → Acted (begin new) (banks_at m old new) r (banks_at m' old new)
   unfolding act_cause
   begin_busy r e e' u m' fit why turned is same =
@@ -96,7 +96,7 @@ module _ {V : Type 0} (m : Model) (old new : List (Cell V)) where
       (both_pass sizes (is_collecting m.mode) causes.Collecting u fit ∙ cond-true (is_collecting m.mode) _ _ busy ∙ ap Some (sym no.1))
       is same (ap (λ x. banks_at x old new) (turned ∙ by.1 ∙ cond-true (is_collecting m.mode) _ _ busy))
 
-  pub begin_done : (u v : Unit {0}) (m' : Model) → Ok u ≡ both_sized m (length old) (length new) → Ok v ≡ turn_answer m Begun → m' ≡ turned_model m Begun → Acted (begin new) (banks_at m old new) (Ok ready) (banks_at m' old new)
+  pub begin_done : (u v : Unit {0}) (m' : Model) → Ok u ≡ both_sized m (length old) (length new) → Ok v ≡ advance_answer m Begun → m' ≡ advanced_model m Begun → Acted (begin new) (banks_at m old new) (Ok ready) (banks_at m' old new)
   unfolding act_cause
   begin_done u v m' fit why turned =
       let by = begun_by m m.mode refl in
@@ -118,7 +118,7 @@ module _ {V : Type 0} (m : Model) (old new : List (Cell V)) where
       acted_refused abandon (banks_at m old new) r e e (banks_at m old new)
       (abandon_cause (Some e) (both_rows (not (eqb (length old) m.size) || not (eqb (length old) m.size)) (not (is_collecting m.mode)) NotCollecting e why)) is refl refl
 
-  pub abandon_idle : (r : Result Reply Cause) (e : Cause) (u : Unit {0}) (m' : Model) → Ok u ≡ both_sized m (length old) (length old) → Err e ≡ turn_answer m Abandoned → m' ≡ turned_model m Abandoned → r ≡ Err e
+  pub abandon_idle : (r : Result Reply Cause) (e : Cause) (u : Unit {0}) (m' : Model) → Ok u ≡ both_sized m (length old) (length old) → Err e ≡ advance_answer m Abandoned → m' ≡ advanced_model m Abandoned → r ≡ Err e
       → Acted abandon (banks_at m old new) r (banks_at m' old new)
   abandon_idle r e u m' fit why turned is =
       let by = abandoned_by m m.mode refl in
@@ -127,7 +127,7 @@ module _ {V : Type 0} (m : Model) (old new : List (Cell V)) where
       (abandon_cause (Some e) (both_pass (not (eqb (length old) m.size) || not (eqb (length old) m.size)) (not (is_collecting m.mode)) NotCollecting u fit ∙ cond-true (not (is_collecting m.mode)) _ _ (ap not no.0) ∙ ap Some (sym no.1)))
       is refl (ap (λ x. banks_at x old new) (turned ∙ by.1 ∙ cond-false (is_collecting m.mode) _ _ no.0))
 
-  pub abandon_done : (u v : Unit {0}) (m' : Model) → Ok u ≡ both_sized m (length old) (length old) → Ok v ≡ turn_answer m Abandoned → m' ≡ turned_model m Abandoned → Acted abandon (banks_at m old new) (Ok ready) (banks_at m' old new)
+  pub abandon_done : (u v : Unit {0}) (m' : Model) → Ok u ≡ both_sized m (length old) (length old) → Ok v ≡ advance_answer m Abandoned → m' ≡ advanced_model m Abandoned → Acted abandon (banks_at m old new) (Ok ready) (banks_at m' old new)
   abandon_done u v m' fit why turned =
       let by = abandoned_by m m.mode refl in
       let busy = told_yes (is_collecting m.mode) NotCollecting v (why ∙ by.0) in
@@ -175,14 +175,14 @@ module _ {V : Type 0} (m : Model) (old new : List (Cell V)) where
       acted finish (banks_at m old new) (Err Spoiled) b' (let_by _ u (fit ∙ sym finish_cause)) (sym (cond-true s.broken _ _ (sym broken))) (is ∙ sym (cond-true s.broken _ _ (sym broken)))
 
   pub finish_done : (u : Unit {0}) (m₁ m₂ : Model) (old₁ new₁ : List (Cell V)) (counts : ℕ × ℕ) → Ok u ≡ under_way m (length old) (length new) → false ≡ (march_all (tour_of (banks_at m old new))).broken
-      → banks_at m₁ old₁ new₁ ≡ standing m.free (march_all (tour_of (banks_at m old new))).tour → counts ≡ (copied_of m₁.mode, marks_of m₁.mode) → m₂ ≡ turned_model m₁ Finished
+      → banks_at m₁ old₁ new₁ ≡ standing m.free (march_all (tour_of (banks_at m old new))).tour → counts ≡ (copied_of m₁.mode, marks_of m₁.mode) → m₂ ≡ advanced_model m₁ Finished
       → Acted finish (banks_at m old new) (Ok (kept_marks counts.0 counts.1)) (banks_at m₂ new₁ old₁)
   finish_done u m₁ m₂ old₁ new₁ counts fit fine is count turned =
       let s = march_all (tour_of (banks_at m old new)) in
       let t = s.tour in
       let model : m₁ ≡ (standing m.free t).model = ap (λ x. x.model) is in
       let counts-are : counts ≡ (t.copied, t.marks) = count ∙ ap (λ x. (copied_of x.mode, marks_of x.mode)) model in
-      let m₂-is : m₂ ≡ (settled t).model = turned ∙ ap (λ x. turned_model x Finished) model in
+      let m₂-is : m₂ ≡ (settled t).model = turned ∙ ap (λ x. advanced_model x Finished) model in
       let olds : old₁ ≡ t.old = ap (λ x. x.cells) is in
       let news : new₁ ≡ t.new = ap (λ x. x.fresh) is in
       acted finish (banks_at m old new) (Ok (kept_marks counts.0 counts.1)) (banks_at m₂ new₁ old₁) (let_by _ u (fit ∙ sym finish_cause))

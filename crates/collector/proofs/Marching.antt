@@ -6,7 +6,7 @@ use Rattle.cells.specs.declared.Cell.{Cell}
 use Rattle.store.specs.declared.Mode.{Mode}
 use Rattle.store.specs.declared.Mode.TheVariants.{Settled, Working, Collecting}
 use Rattle.store.specs.Model.{Model, is_collecting}
-use Rattle.store.specs.Turns.{with_mode}
+use Rattle.store.specs.Advances.{with_mode}
 use Rattle.collector.specs.declared.steps.Outcome.{Outcome}
 use Rattle.collector.specs.declared.steps.Outcome.TheVariants as outcome
 use Rattle.collector.specs.Steps.{Tour, Stand, finished, step_spoiled, stepped, march}

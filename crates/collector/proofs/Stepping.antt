@@ -21,13 +21,13 @@ use Rattle.graph.specs.Places.{place_of, cell_of, side_of, field_of, holds, is_n
 use Rattle.graph.proofs.Reading.{cell_of_place, side_of_place}
 use Rattle.store.specs.declared.Mode.{Mode}
 use Rattle.store.specs.declared.Mode.TheVariants.{Collecting}
-use Rattle.store.specs.declared.turns.Event.{Event}
-use Rattle.store.specs.declared.turns.Event.TheVariants.{Stepped}
+use Rattle.store.specs.declared.turns.Happening.{Happening}
+use Rattle.store.specs.declared.turns.Happening.TheVariants.{Stepped}
 use Rattle.store.specs.Model.{Model}
 use Rattle.store.specs.Bounds.{counts_within}
 use Rattle.store.specs.Fields.{unique, sticky, is_unique, with_side}
 use Rattle.store.specs.Calls.{unless}
-use Rattle.store.specs.Turns.{with_mode, bit, step_fits, turn_answer, turned_model}
+use Rattle.store.specs.Advances.{with_mode, bit, step_fits, advance_answer, advanced_model}
 use Rattle.store.proofs.Taking.{put_set}
 use Rattle.collector.specs.Steps.{Tour, hands_with, cells_with, source_at, place_from, source_good, is_pair, forward_spoiled, field_spoiled, step_spoiled, marked_old, passed, copied_over, taken_over, second_met, forwarded, met_field, stepped, finished}
 use Rattle.collector.specs.Collections.{Banks, tour_of, standing}
@@ -134,12 +134,12 @@ module _ (m : Model) (s c n : ℕ) (mode : m.mode ≡ Collecting s c n) (left : 
   fit_answer true = refl
   fit_answer false = refl
 
-  pub step_answer : (copies marks : Bool) → turn_answer m (Stepped copies marks) ≡ cond (not copies || ltb c m.size) (Ok tt) (Err Spoiled)
-  step_answer copies marks = ap (λ x. turn_answer x (Stepped copies marks)) m_is ∙ fit_answer (step_fits m.size s c copies) ∙ ap (λ b. cond b (Ok tt) (Err Spoiled)) (fits_is copies)
+  pub step_answer : (copies marks : Bool) → advance_answer m (Stepped copies marks) ≡ cond (not copies || ltb c m.size) (Ok tt) (Err Spoiled)
+  step_answer copies marks = ap (λ x. advance_answer x (Stepped copies marks)) m_is ∙ fit_answer (step_fits m.size s c copies) ∙ ap (λ b. cond b (Ok tt) (Err Spoiled)) (fits_is copies)
 
-  pub step_model : (copies marks : Bool) → turned_model m (Stepped copies marks) ≡ cond (not copies || ltb c m.size) (with_mode m (Collecting (s + 1) (c + bit copies) (n + bit marks))) m
+  pub step_model : (copies marks : Bool) → advanced_model m (Stepped copies marks) ≡ cond (not copies || ltb c m.size) (with_mode m (Collecting (s + 1) (c + bit copies) (n + bit marks))) m
   step_model copies marks =
-      ap (λ x. turned_model x (Stepped copies marks)) m_is ∙ ap (λ x. cond (step_fits m.size s c copies) (with_mode m (Collecting (s + 1) (c + bit copies) (n + bit marks))) x) (sym m_is)
+      ap (λ x. advanced_model x (Stepped copies marks)) m_is ∙ ap (λ x. cond (step_fits m.size s c copies) (with_mode m (Collecting (s + 1) (c + bit copies) (n + bit marks))) x) (sym m_is)
       ∙ ap (λ b. cond b (with_mode m (Collecting (s + 1) (c + bit copies) (n + bit marks))) m) (fits_is copies)
 
 -- where the collection stands
@@ -180,7 +180,7 @@ module _ {V : Type 0} (m : Model) (s c n : ℕ) (mode : m.mode ≡ Collecting s 
       }
 
   -- a step that copies is refused exactly where there is no room
-  pub copy_refused : (leads : Tour V → Tour V) (marks : Bool) (m' : Model) (r : Result Unit Cause) (e e' : Cause) → Err e' ≡ turn_answer m (Stepped true marks) → m' ≡ turned_model m (Stepped true marks) → r ≡ Err e → e ≡ e'
+  pub copy_refused : (leads : Tour V → Tour V) (marks : Bool) (m' : Model) (r : Result Unit Cause) (e e' : Cause) → Err e' ≡ advance_answer m (Stepped true marks) → m' ≡ advanced_model m (Stepped true marks) → r ≡ Err e → e ≡ e'
       → Went roomless leads (banks_at m old new) r (banks_at m' old new)
   copy_refused leads marks m' r e e' why turned is same =
       let answer = why ∙ step_answer m s c n mode left true marks in
@@ -190,10 +190,10 @@ module _ {V : Type 0} (m : Model) (s c n : ℕ) (mode : m.mode ≡ Collecting s 
       went_off roomless leads m' r (ap not full) (model ∙ cond-false (ltb c m.size) _ _ full) (is ∙ ap Err (same ∙ spoiled))
 
   -- and any other is not refused
-  pub step_not_refused : (marks : Bool) (e : Cause) → Err e ≡ turn_answer m (Stepped false marks) → ⊥
+  pub step_not_refused : (marks : Bool) (e : Cause) → Err e ≡ advance_answer m (Stepped false marks) → ⊥
   step_not_refused marks e why = let answer = why ∙ step_answer m s c n mode left false marks in let no : ◌≡◌ {A = ℕ} 0 1 = cc in omega arith
 
-  pub copy_room : (marks : Bool) (u : Unit {0}) → Ok u ≡ turn_answer m (Stepped true marks) → ltb c m.size ≡ true
+  pub copy_room : (marks : Bool) (u : Unit {0}) → Ok u ≡ advance_answer m (Stepped true marks) → ltb c m.size ≡ true
   copy_room marks u why = let answer = why ∙ step_answer m s c n mode left true marks in grind (arith, nat_tests)
 
 same_banks : {V : Type 0} (size mark : ℕ) (free : List ℕ) (h h' : List Field) (x x' : Mode) (o o' w w' : List (Cell V)) → h ≡ h' → x ≡ x' → o ≡ o' → w ≡ w'
@@ -224,7 +224,7 @@ module _ {V : Type 0} (lawful : V → Bool) (m : Model) (s c n : ℕ) (mode : m.
   unmarked met marks is never = let only : is_unique met.tag ≡ true = grind (arith, nat_tests) in sym (cond-true (is_unique met.tag) _ _ only)
 
   pub copied : (met : Reference) (x : Cell V) (marks : Bool) (place : Source) (cell : Cell V) (m₁ m₂ : Model) (old₂ new₁ new₂ : List (Cell V)) → marks ≡ not (is_unique met.tag) → ltb c m.size ≡ true
-      → storable lawful x ≡ true → place ≡ source_at s → cell ≡ cell_at_place new place → m₁ ≡ turned_model m (Stepped true marks) → new₁ ≡ after_put lawful new c x → m₂ ≡ with_hands_at m₁ place (unique c)
+      → storable lawful x ≡ true → place ≡ source_at s → cell ≡ cell_at_place new place → m₁ ≡ advanced_model m (Stepped true marks) → new₁ ≡ after_put lawful new c x → m₂ ≡ with_hands_at m₁ place (unique c)
       → new₂ ≡ cells_at place (unique c) cell new₁ → old₂ ≡ marked_old (tour m s c n old new) met → banks_at m₂ old₂ new₂ ≡ standing m.free (copied_over (tour m s c n old new) met x)
   copied met x marks place cell m₁ m₂ old₂ new₁ new₂ is room ok there cell-is e₁ put e₂ put₂ o =
       let f = unique c in
@@ -239,7 +239,7 @@ module _ {V : Type 0} (lawful : V → Bool) (m : Model) (s c n : ℕ) (mode : m.
       ∙ same_banks m.size m.mark m.free _ (hands_with s f m.hands) _ _ old₂ _ new₂ _ (hands_there s f m.hands)
       (counts (s + 1) (c + 1) (n + bit marks) (suc s) (suc c) (cond (is_unique met.tag) n (suc n)) (add-one s) (add-one c) (marked_count n met.tag marks is)) o new₂-is
 
-  pub taken : (met : Reference) (place : Source) (cell : Cell V) (m₁ m₂ : Model) (new₂ : List (Cell V)) → place ≡ source_at s → cell ≡ cell_at_place new place → m₁ ≡ turned_model m (Stepped false false)
+  pub taken : (met : Reference) (place : Source) (cell : Cell V) (m₁ m₂ : Model) (new₂ : List (Cell V)) → place ≡ source_at s → cell ≡ cell_at_place new place → m₁ ≡ advanced_model m (Stepped false false)
       → m₂ ≡ with_hands_at m₁ place (To met) → new₂ ≡ cells_at place (To met) cell new → banks_at m₂ old new₂ ≡ standing m.free (taken_over (tour m s c n old new) met)
   taken met place cell m₁ m₂ new₂ there cell-is e₁ e₂ put₂ =
       let f = To met in
@@ -252,7 +252,7 @@ module _ {V : Type 0} (lawful : V → Bool) (m : Model) (s c n : ℕ) (mode : m.
       ∙ same_banks m.size m.mark m.free _ (hands_with s f m.hands) _ _ old old new₂ _ (hands_there s f m.hands) (counts (s + 1) (c + 0) (n + 0) (suc s) c n (add-one s) (add-zero c) (add-zero n)) refl new₂-is
 
   pub again : (met : Reference) (a : ℕ) (source place : Source) (visited cell : Cell V) (m₁ m₂ m₃ : Model) (old₂ new₁ new₂ : List (Cell V)) → source_good c new source ≡ true → place ≡ source_at s → visited ≡ cell_at_place new place
-      → cell ≡ cell_at_place new source → m₁ ≡ turned_model m (Stepped false true) → old₂ ≡ after_put lawful old met.address (Moved (record { tag = Sticky; address = a }) source)
+      → cell ≡ cell_at_place new source → m₁ ≡ advanced_model m (Stepped false true) → old₂ ≡ after_put lawful old met.address (Moved (record { tag = Sticky; address = a }) source)
       → m₂ ≡ with_hands_at m₁ place (sticky a) → new₁ ≡ cells_at place (sticky a) visited new → m₃ ≡ with_hands_at m₂ source (sticky a) → new₂ ≡ cells_at source (sticky a) (cell_since place visited (sticky a) source cell) new₁
       → banks_at m₃ old₂ new₂ ≡ standing m.free (second_met (tour m s c n old new) met (record { tag = Unique; address = a }) source)
   again met a source place visited cell m₁ m₂ m₃ old₂ new₁ new₂ good there visited-is cell-is e₁ put e₂ put₁ e₃ put₂ =
@@ -330,7 +330,7 @@ module _ {V : Type 0} (m : Model) (s c n : ℕ) (mode : m.mode ≡ Collecting s 
   leads_there = ap (met_field (tour m s c n old new)) (sym holds_there)
 
   -- a nil field costs a step
-  pub passes : (m' : Model) (r : Result Unit Cause) → field ≡ Nil → r ≡ turn_answer m (Stepped false false) → m' ≡ turned_model m (Stepped false false)
+  pub passes : (m' : Model) (r : Result Unit Cause) → field ≡ Nil → r ≡ advance_answer m (Stepped false false) → m' ≡ advanced_model m (Stepped false false)
       → Went step_spoiled stepped (banks_at m old new) r (banks_at m' old new)
   passes m' r nil answer model =
       let t = tour m s c n old new in

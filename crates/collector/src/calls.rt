@@ -14,7 +14,7 @@ use cells::causes::Cause;
 use cells::leaves::LeafKind;
 use store::Mode;
 use store::record::Record;
-use store::turns::Event;
+use store::turns::Happening;
 
 // Refuses banks of another size.
 fn both_sized(store: &Record, old: usize, new: usize) -> Result<(), Cause>
@@ -66,7 +66,7 @@ pub fn begin<V: LeafKind, O: Bank<V>, N: Bank<V>>(
     ensures { Acted (begin (N.cells spare.now)) (banks_at (view store.old) (O.cells working.now) (N.cells spare.now)) (begun_reply result) (banks_at (view store.new) (O.cells working.now) (N.cells spare.now)) }
 {
     both_sized(store, working.size(), spare.size())?;
-    store.turn(Event::Begun)?;
+    store.advance(Happening::Begun)?;
     Ok(Ticket::new())
 }
 
@@ -109,7 +109,7 @@ pub fn finish<V: LeafKind, O: Bank<V>, N: Bank<V>>(
         return Err((Cause::Spoiled, ticket));
     }
     let counts = tally(store);
-    let _ = store.turn(Event::Finished);
+    let _ = store.advance(Happening::Finished);
     ticket.spend();
     Ok(counts)
 }
@@ -126,7 +126,7 @@ pub fn abandon<V: LeafKind, O: Bank<V>>(
     if let Err(cause) = both_sized(store, size, size) {
         return Err((cause, ticket));
     }
-    match store.turn(Event::Abandoned) {
+    match store.advance(Happening::Abandoned) {
         Ok(()) => {
             ticket.spend();
             Ok(())

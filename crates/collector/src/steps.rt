@@ -18,7 +18,7 @@ use cells::leaves::LeafKind;
 use cells::{Cell, Field, Reference, Source, Tag};
 use store::Mode;
 use store::record::Record;
-use store::turns::Event;
+use store::turns::Happening;
 
 // What came of one more step: there was no place left, it was spoiled and changed nothing, or it was made.
 #[derive(Clone, Copy)]
@@ -51,7 +51,7 @@ fn copy_over<V: LeafKind, O: Bank<V>, N: Bank<V>>(
     ensures new_rooted { N.root new.new ≡ N.root new.old }
 {
     let marks = is_sticky(met.tag);
-    store.turn(Event::Stepped {
+    store.advance(Happening::Stepped {
         copies: true,
         marks,
     })?;
@@ -131,7 +131,7 @@ fn meet_again<V: LeafKind, O: Bank<V>, N: Bank<V>>(
     ensures new_rooted { N.root new.new ≡ N.root new.old }
 {
     let cell = cell_of_source(new, visit.copied, source)?;
-    store.turn(Event::Stepped {
+    store.advance(Happening::Stepped {
         copies: false,
         marks: true,
     })?;
@@ -174,7 +174,7 @@ fn follow<V: LeafKind, O: Bank<V>, N: Bank<V>>(
     match forward.tag {
         Tag::Unique => meet_again(store, old, new, visit, met, forward.address, source),
         Tag::Sticky => {
-            store.turn(Event::Stepped {
+            store.advance(Happening::Stepped {
                 copies: false,
                 marks: false,
             })?;
@@ -234,7 +234,7 @@ fn visit_next<V: LeafKind, O: Bank<V>, N: Bank<V>>(
         cell,
     };
     match field_visited(store, place, &cell) {
-        Field::Nil => store.turn(Event::Stepped {
+        Field::Nil => store.advance(Happening::Stepped {
             copies: false,
             marks: false,
         }),

@@ -14,7 +14,7 @@ use cells::causes::Cause;
 use cells::leaves::LeafKind;
 use cells::{Cell, Field, Side, Source};
 use store::record::Record;
-use store::turns::Event;
+use store::turns::Happening;
 
 #[derive(Clone, Copy)]
 pub struct Visit<V> {
@@ -106,7 +106,7 @@ pub fn put_there<V: LeafKind, N: Bank<V>>(
     match place {
         Source::Nowhere => {}
         Source::Hand(hand) => {
-            let _ = store.turn(Event::Placed { hand, field });
+            let _ = store.advance(Happening::Placed { hand, field });
         }
         Source::Cell(at, side) => {
             let _ = new.put(at, &with_side(cell, side, field));

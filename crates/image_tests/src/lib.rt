@@ -15,7 +15,7 @@ mod tests {
     use kinds::points::Point;
     use std::process::Abort;
     use std::test::Fail;
-    use store::turns::Event;
+    use store::turns::Happening;
 
     // A pair in hand 1 that holds the leaf with word 0 on its left.
     fn sample(kind: u8) -> [u8; 86] {
@@ -93,11 +93,11 @@ mod tests {
         let mut record = open::<V, B>(bank, image)?;
         let mut short = [0xEEu8; 85];
         assert!(rt; is_refused(write::<V, B>(&record, bank, &mut short), Cause::TooFewBytes));
-        record.turn(Event::Edited)?;
+        record.advance(Happening::Edited)?;
         assert!(rt; is_refused(write::<V, B>(&record, bank, &mut short), Cause::NotSettled));
         assert!(rt; bank.put(1, &moved()));
         assert!(rt; is_refused(write::<V, B>(&record, bank, &mut short), Cause::Spoiled));
-        record.turn(Event::Begun)?;
+        record.advance(Happening::Begun)?;
         assert!(rt; is_refused(write::<V, B>(&record, bank, &mut short), Cause::Collecting));
         assert!(rt; short == [0xEEu8; 85]);
         Ok(())

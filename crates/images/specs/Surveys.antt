@@ -1,16 +1,18 @@
 -- What a survey knows once some places are read, and what it says at the next one. Assumes nothing.
-use Rattle.std.specs.Prelude.{◌≡◌, ℕ, ◌+◌, ◌*◌, ◌<◌, ◌≤◌, min, true, cond, ◌↔◌, List, length, is_some, Some, None, Option, nat_lt, slice_index, slice_set}
+use Rattle.std.specs.Prelude.{◌≡◌, ℕ, ◌+◌, ◌*◌, ◌<◌, ◌≤◌, min, true, cond, ◌↔◌, List, length, is_some, Some, None, Option, nat_le, nat_lt, slice_index, slice_set}
 use Rattle.cells.specs.declared.Tag.TheVariants.{Sticky}
 use Rattle.cells.specs.declared.Reference.{Reference}
 use Rattle.cells.specs.declared.Field.{Field}
 use Rattle.cells.specs.declared.Field.TheVariants.{Nil, To}
 use Rattle.graph.specs.Places.{Another, met, is_node}
+use Rattle.graph.specs.Checks.{tagged}
 use Rattle.images.specs.declared.faults.Place.{Place}
 use Rattle.images.specs.declared.faults.Flaw.{Flaw}
+use Rattle.images.specs.declared.faults.Flaw.TheVariants.{WrongTag}
 use Rattle.images.specs.declared.surveys.Survey.{Survey}
 use Rattle.images.specs.Layout.{stored_hand, stored_cell, held}
 use Rattle.images.specs.Faults.{Broken}
-use Rattle.images.specs.First.{references, tag_step}
+use Rattle.images.specs.First.{references}
 
 -- the survey after the places below p: how many addresses they meet, and how many refer to each address, counted up to two
 pub record Surveyed (at : ℕ → Field) (p : ℕ) (survey : Survey) : Type 0 where
@@ -25,7 +27,8 @@ noted tally (To x) = cond (nat_lt (slice_index tally x.address) 2) (slice_set ta
 
 -- the flaw of a field's tag, by the tally of all places
 abbrev pub mistag : Place → Field → List ℕ → Option Flaw
-mistag place f tally = tag_step (λ a. slice_index tally a) place f
+mistag place Nil tally = None
+mistag place (To x) tally = cond (tagged x.tag (nat_le 2 (slice_index tally x.address))) None (Some (WrongTag place x))
 
 -- every rule but that of tags holds of the places below p, and of the hands and cells that they belong to
 pub record Kept {V : Type 0} (taken : ℕ → Option V) (rest : List ℕ) (r : ℕ) (p : ℕ) : Type 0 where

@@ -3,6 +3,7 @@ pub mod Fields
 pub mod Calls
 pub mod Called
 pub mod Bounds
+pub mod Advances
 pub mod Turns
 pub mod Record
 pub mod Parts

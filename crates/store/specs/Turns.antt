@@ -1,89 +1,61 @@
--- How a record follows what happens to its store. Assumes nothing.
-use Rattle.std.specs.Prelude.{ℕ, ◌+◌, ◌*◌, Bool, true, false, cond, not, ◌&&◌, ◌||◌, [], Some, None, Ok, Err, Option, Result, nat_lt, slice_set}
-use Rattle.cells.specs.declared.Field.{Field}
+-- How the mode of a store follows what happens to it. Assumes nothing.
+use Rattle.std.specs.Prelude.{Ok, Err, Result}
 use Rattle.cells.specs.declared.causes.Cause.{Cause}
-use Rattle.cells.specs.declared.causes.Cause.TheVariants.{NoSuchHand, NotCollecting, Spoiled}
+use Rattle.cells.specs.declared.causes.Cause.TheVariants.{NotCollecting}
 use Rattle.cells.specs.declared.causes.Cause.TheVariants as causes
 use Rattle.store.specs.declared.Mode.{Mode}
 use Rattle.store.specs.declared.Mode.TheVariants.{Settled, Working, Collecting}
-use Rattle.store.specs.declared.turns.Event.{Event}
-use Rattle.store.specs.declared.turns.Event.TheVariants.{Edited, Begun, Placed, Stepped, Finished, Abandoned}
-use Rattle.store.specs.Model.{Model, new_model}
-use Rattle.store.specs.Fields.{past}
-use Rattle.store.specs.Calls.{unless}
+use Rattle.store.specs.declared.turning.Record.{Record}
+use Rattle.store.specs.declared.turning.Event.{Event}
+use Rattle.store.specs.declared.turning.Event.TheVariants.{Edited, Begun, Stepped, Finished, Abandoned}
+use Rattle.store.specs.Model.{Model}
+use Rattle.store.specs.Bounds.{listed}
 
-abbrev pub with_mode : Model → Mode → Model
-with_mode m x = record { size = m.size; mark = m.mark; hands = m.hands; free = m.free; mode = x }
-
-abbrev pub with_hands : Model → ℕ → Field → Model
-with_hands m h f = record { size = m.size; mark = m.mark; hands = slice_set m.hands h f; free = m.free; mode = m.mode }
-
--- a field is placed in a hand that there is, and none past the size
-abbrev pub hold_cause : Model → ℕ → Field → Option Cause
-hold_cause m h f = cond (nat_lt 15 h) (Some NoSuchHand) (cond (past m.size f) (Some Spoiled) None)
-
-abbrev pub hold_answer : Model → ℕ → Field → Result Unit Cause
-hold_answer m h f = unless (hold_cause m h f) tt Err Ok
-
-abbrev pub held_model : Model → ℕ → Field → Model
-held_model m h f = unless (hold_cause m h f) (with_hands m h f) (λ _. m) (λ x. x)
-
-abbrev pub bit : Bool → ℕ
-bit true = 1
-bit false = 0
-
--- a step is made while places are left, and copies while there is room
-abbrev pub step_fits : ℕ → ℕ → ℕ → Bool → Bool
-step_fits size s c copies = nat_lt s (16 + 2 * c) && (not copies || nat_lt c size)
+-- the record without its proofs
+abbrev pub view : Record → Model
+view r = record { size = r.size; mark = r.mark; hands = r.hands.fields; free = listed r.free.count r.free.at; mode = r.mode }
 
 -- what a store that does not collect does after an event
-abbrev pub idle_cause : Event → Option Cause
-idle_cause Edited = None
-idle_cause Begun = None
-idle_cause (Placed h f) = Some NotCollecting
-idle_cause (Stepped copies marks) = Some NotCollecting
-idle_cause Finished = Some NotCollecting
-idle_cause Abandoned = Some NotCollecting
+abbrev pub turned_idle : Mode → Event → Mode
+turned_idle m Edited = Working
+turned_idle m Begun = Collecting 0 0 0
+turned_idle m (Stepped s c n) = m
+turned_idle m Finished = m
+turned_idle m Abandoned = m
 
-abbrev pub idle_mode : Mode → Event → Mode
-idle_mode x Edited = Working
-idle_mode x Begun = Collecting 0 0 0
-idle_mode x (Placed h f) = x
-idle_mode x (Stepped copies marks) = x
-idle_mode x Finished = x
-idle_mode x Abandoned = x
+-- what one does that collects with these counts
+abbrev pub turned_busy : Mode → Event → Mode
+turned_busy m Edited = m
+turned_busy m Begun = m
+turned_busy m (Stepped s c n) = Collecting s c n
+turned_busy m Finished = Settled
+turned_busy m Abandoned = Settled
 
--- and one that collects, with s steps made and c cells copied
-abbrev pub busy_cause : Model → ℕ → ℕ → Event → Option Cause
-busy_cause m s c Edited = Some causes.Collecting
-busy_cause m s c Begun = Some causes.Collecting
-busy_cause m s c (Placed h f) = hold_cause m h f
-busy_cause m s c (Stepped copies marks) = cond (step_fits m.size s c copies) None (Some Spoiled)
-busy_cause m s c Finished = None
-busy_cause m s c Abandoned = None
+abbrev pub turned : Mode → Event → Mode
+turned Settled e = turned_idle Settled e
+turned Working e = turned_idle Working e
+turned (Collecting s c n) e = turned_busy (Collecting s c n) e
 
-abbrev pub busy_model : Model → ℕ → ℕ → ℕ → Event → Model
-busy_model m s c n Edited = m
-busy_model m s c n Begun = m
-busy_model m s c n (Placed h f) = held_model m h f
-busy_model m s c n (Stepped copies marks) = cond (step_fits m.size s c copies) (with_mode m (Collecting (s + 1) (c + bit copies) (n + bit marks))) m
-busy_model m s c n Finished = record { size = m.size; mark = c; hands = m.hands; free = []; mode = Settled }
-busy_model m s c n Abandoned = new_model m.size
+abbrev pub idle_answer : Event → Result Unit Cause
+idle_answer Edited = Ok tt
+idle_answer Begun = Ok tt
+idle_answer (Stepped s c n) = Err NotCollecting
+idle_answer Finished = Err NotCollecting
+idle_answer Abandoned = Err NotCollecting
 
-abbrev pub turn_cause : Model → Mode → Event → Option Cause
-turn_cause m Settled e = idle_cause e
-turn_cause m Working e = idle_cause e
-turn_cause m (Collecting s c n) e = busy_cause m s c e
+abbrev pub busy_answer : Event → Result Unit Cause
+busy_answer Edited = Err causes.Collecting
+busy_answer Begun = Err causes.Collecting
+busy_answer (Stepped s c n) = Ok tt
+busy_answer Finished = Ok tt
+busy_answer Abandoned = Ok tt
 
 -- whether a store takes an event, or why it refuses it
-abbrev pub turn_answer : Model → Event → Result Unit Cause
-turn_answer m e = unless (turn_cause m m.mode e) tt Err Ok
+abbrev pub turn_answer : Mode → Event → Result Unit Cause
+turn_answer Settled e = idle_answer e
+turn_answer Working e = idle_answer e
+turn_answer (Collecting s c n) e = busy_answer e
 
-abbrev pub turned_from : Model → Mode → Event → Model
-turned_from m Settled e = with_mode m (idle_mode Settled e)
-turned_from m Working e = with_mode m (idle_mode Working e)
-turned_from m (Collecting s c n) e = busy_model m s c n e
-
--- the record after it
+-- the model after an event: its mode turns, and the rest stays
 abbrev pub turned_model : Model → Event → Model
-turned_model m e = turned_from m m.mode e
+turned_model m e = record { size = m.size; mark = m.mark; hands = m.hands; free = m.free; mode = turned m.mode e }

@@ -1,9 +1,10 @@
-// The store's record and what its calls mean. No call can be made yet: the parts below are not reachable from outside.
+// The store's record and its calls outside a collection.
 #![tactic(auto)]
 
 mod free;
 mod hands;
 pub mod record;
+mod turning;
 pub mod turns;
 
 // What a store is doing. A collecting one holds the steps made, the cells copied and the marks.

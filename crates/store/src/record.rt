@@ -6,6 +6,7 @@ use crate::Mode;
 use crate::free::FreeList;
 use crate::hands::Hands;
 
+mod advancing;
 mod calls;
 mod holding;
 mod making;
@@ -13,7 +14,6 @@ mod placing;
 mod reading;
 mod restoring;
 mod targets;
-mod turning;
 
 #[derive(Drop)]
 pub struct Record {

@@ -3,7 +3,7 @@ use cells::Field;
 
 // A step says what it counts: a cell copied, a marking. A placed field goes into a hand while the hands are visited.
 #[derive(Clone, Copy)]
-pub enum Event {
+pub enum Happening {
     Edited,
     Begun,
     Placed { hand: u16, field: Field },

@@ -2,5 +2,6 @@ pub mod HexSteps
 pub mod WordsAt
 pub mod SameSteps
 pub mod Places
+pub mod Tidied
 pub mod Pieces
 pub mod Listings

@@ -52,6 +52,19 @@ EntryLine lawful word shows n (Ok v) bs =
     (lawful v ≡ true → (text : List ℕ) × shows v text × (bs ≡ value_line n text (word v))) × (lawful v ≡ false → bs ≡ refusal_line n ValueRefused)
 EntryLine lawful word shows n (Err c) bs = bs ≡ refusal_line n c
 
+-- a value that was not refused is lawful
+abbrev pub Lawful : {V : Type 0} → (V → Bool) → Result V Cause → Type 0
+Lawful lawful (Ok v) = lawful v ≡ true
+Lawful lawful (Err c) = Unit {0}
+
+-- P of what is there, if anything is
+abbrev pub Found : {X : Type 0} → Option X → (X → Type 0) → Type 0
+Found None P = Unit {0}
+Found (Some x) P = P x
+
+abbrev pub Tidy : {V : Type 0} → (V → Bool) → List (Entry V) → Type 0
+Tidy {V} lawful xs = (k : ℕ) (d : Entry V) → k < length xs → Lawful lawful (slice_index_or xs k d).value
+
 -- what the numbers of a line come to: a value is tidied, or refused
 abbrev pub tidy_read : {V : Type 0} → (V → Option V) → Option (Result V Cause) → Option (Result V Cause)
 tidy_read tidied None = None

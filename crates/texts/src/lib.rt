@@ -3,5 +3,6 @@
 
 pub mod hex;
 pub mod lists;
+pub mod readings;
 pub mod splits;
 pub mod typed;

@@ -1,15 +1,12 @@
 // Lists of typed values, a value to a line, and the report on one or two of them.
-ghost use Rattle.std.specs.Prelude.{◌≡◌, ◌++◌, IfOk, string_bytes, MatchResult};
-ghost use Rattle.texts.specs.Typed.{word_bytes};
-ghost use Rattle.texts.specs.Splits.{words_of};
-ghost use Rattle.texts.specs.Lists.{same_value, FirstDifference, value_line, refusal_line, EntryLine, Value, Line, Entries, NoEntries, place_text, same_line, different_line, verdict_line};
+ghost use Rattle.std.specs.Prelude.{◌≡◌, ◌++◌, IfOk, string_bytes};
+ghost use Rattle.texts.specs.Lists.{same_value, FirstDifference, value_line, refusal_line, EntryLine, Lawful, Found, Tidy, place_text, same_line, different_line, verdict_line};
 
 use crate::hex::push_hex;
-use crate::splits::{Separator, is_passed_over, split};
 use crate::typed::TypedLeaf;
 use cells::causes::Cause;
 use cells::leaves::{LeafKind, compare};
-use std::alloc::{AllocError, Global};
+use std::alloc::{AllocError, AllocFailed, Global};
 
 // A value and the number of the line that it was typed in; the value is tidied, or refused.
 #[derive(Clone, Copy, Debug)]
@@ -133,58 +130,52 @@ pub enum ListFault {
     Unreadable(usize),
 }
 
-// The tidied value that words stand for, or its refusal; none where they are no numbers.
-fn read_value<V: TypedLeaf>(words: &[&str]) -> Option<Result<V, Cause>>
-    ensures { Value V.reads V.tidied (word_bytes words.now) result }
-{
-    match V::of_words(words) {
-        Some(Ok(raw)) => Some(raw.tidy()),
-        Some(Err(cause)) => Some(Err(cause)),
-        None => None,
+impl From<AllocError> for ListFault {
+    fn from(_e: AllocError) -> ListFault {
+        ListFault::Memory
     }
 }
 
-// The entry that a line has, with its number; none where the line is passed over.
-fn read_line<V: TypedLeaf>(
+impl<T: Drop> From<AllocFailed<T>> for ListFault {
+    fn from(_e: AllocFailed<T>) -> ListFault {
+        ListFault::Memory
+    }
+}
+
+// The tidied value that a line holds, or its refusal; none where the words of the line are no numbers.
+fn read_value<V: TypedLeaf>(
     heap: Global,
     line: &str,
-    number: usize,
-) -> Result<Option<Entry<V>>, ListFault>
-    ensures { Line V.reads V.tidied number (words_of line.now) result }
+) -> Result<Option<Result<V, Cause>>, AllocError>
+    ensures { IfOk result (λ o. Found o (λ v. Lawful V.lawful v)) }
 {
-    let Ok(words) = split(heap, line, Separator::Space) else {
-        return Err(ListFault::Memory);
-    };
-    if is_passed_over(words.as_slice()) {
-        return Ok(None);
-    }
-    match read_value::<V>(words.as_slice()) {
-        Some(value) => Ok(Some(Entry {
-            line: number,
-            value,
-        })),
-        None => Err(ListFault::Unreadable(number)),
+    let words: Vec<&str> = line.split_whitespace().collect(heap)?;
+    match V::of_words(words.as_slice()) {
+        Some(Ok(raw)) => Ok(Some(raw.tidy())),
+        Some(Err(cause)) => Ok(Some(Err(cause))),
+        None => Ok(None),
     }
 }
 
 // The values of a text, one to a line; blank lines and lines that begin with # are passed over.
 pub fn read_list<V: TypedLeaf>(heap: Global, text: &str) -> Result<Vec<Entry<V>>, ListFault>
-    ensures { MatchResult result (λ v. Entries V.reads V.tidied text.now v.items) (λ fault. NoEntries V.reads V.tidied text.now fault) }
+    ensures { IfOk result (λ v. Tidy V.lawful v.items) }
 {
-    let Ok(lines) = split(heap, text, Separator::Newline) else {
-        return Err(ListFault::Memory);
-    };
     let mut entries = Vec::new(heap);
-    for i in 0..lines.len() {
-        let found = match read_line::<V>(heap, lines[i], i + 1) {
-            Ok(found) => found,
-            Err(fault) => return Err(fault),
-        };
-        if let Some(entry) = found {
-            if entries.push(entry).is_err() {
-                return Err(ListFault::Memory);
-            }
+    let mut number = 0usize;
+    for line in text.lines() {
+        number = number.saturating_add(1);
+        let line = line.trim();
+        if line.is_empty() || line.starts_with('#') {
+            continue;
         }
+        let Some(value) = read_value::<V>(heap, line)? else {
+            return Err(ListFault::Unreadable(number));
+        };
+        entries.push(Entry {
+            line: number,
+            value,
+        })?;
     }
     Ok(entries)
 }

@@ -16,11 +16,11 @@ returns-in-Ok g c =
     let m = view c.args.store.now in
     let olds = g.O.Bank.cells c.args.old.now in
     let fit = c.in_default.ensures ∙ ap (λ n. both_sized m n n) c.size-size.ensures in
-    λ fresh. abandon_done m olds fresh _ _ (view c.turn.new.self) fit c.in-Ok.ensures.answer c.turn.ensures.after
+    λ fresh. abandon_done m olds fresh _ _ (view c.advance.new.self) fit c.in-Ok.ensures.answer c.advance.ensures.after
 
-pub returns-in-Err-turn : goal.returns-in-Err-turn
-returns-in-Err-turn g c =
+pub returns-in-Err-advance : goal.returns-in-Err-advance
+returns-in-Err-advance g c =
     let m = view c.args.store.now in
     let olds = g.O.Bank.cells c.args.old.now in
     let fit = c.in_default.ensures ∙ ap (λ n. both_sized m n n) c.size-size.ensures in
-    λ fresh. abandon_idle m olds fresh _ c.in-Err-turn.cause _ (view c.turn.new.self) fit c.in-Err-turn.ensures.answer c.turn.ensures.after refl
+    λ fresh. abandon_idle m olds fresh _ c.in-Err-advance.cause _ (view c.advance.new.self) fit c.in-Err-advance.ensures.answer c.advance.ensures.after refl

@@ -14,14 +14,14 @@ returns-in_err-both_sized g c =
     let why = c.in_err-both_sized.ensures ∙ ap (λ n. both_sized m n c.size-2.result) c.size.ensures ∙ ap (both_sized m (length olds)) c.size-2.ensures in
     begin_missized m olds news (begun_reply c.from_residual.result) p.0 c.in_err-both_sized.field-0.0 why (ap begun_reply p.1) p.2
 
-pub returns-in_err-turn : goal.returns-in_err-turn
-returns-in_err-turn g c =
+pub returns-in_err-advance : goal.returns-in_err-advance
+returns-in_err-advance g c =
     let m = view c.args.store.now in
     let olds = g.O.Bank.cells c.args.working.now in
     let news = g.N.Bank.cells c.args.spare.now in
-    let p = err_from_is_err_and c.from_residual-in_err-turn.result c.from_residual-in_err-turn.ensures.1 in
+    let p = err_from_is_err_and c.from_residual-in_err-advance.result c.from_residual-in_err-advance.ensures.1 in
     let fit = c.in_ok-both_sized.ensures ∙ ap (λ n. both_sized m n c.size-2.result) c.size.ensures ∙ ap (both_sized m (length olds)) c.size-2.ensures in
-    begin_busy m olds news (begun_reply c.from_residual-in_err-turn.result) p.0 c.in_err-turn.field-0.0 _ (view c.turn.new.self) fit c.in_err-turn.ensures.answer c.turn.ensures.after (ap begun_reply p.1) p.2
+    begin_busy m olds news (begun_reply c.from_residual-in_err-advance.result) p.0 c.in_err-advance.field-0.0 _ (view c.advance.new.self) fit c.in_err-advance.ensures.answer c.advance.ensures.after (ap begun_reply p.1) p.2
 
 pub returns : goal.returns
 returns g c =
@@ -29,4 +29,4 @@ returns g c =
     let olds = g.O.Bank.cells c.args.working.now in
     let news = g.N.Bank.cells c.args.spare.now in
     let fit = c.in_ok-both_sized.ensures ∙ ap (λ n. both_sized m n c.size-2.result) c.size.ensures ∙ ap (both_sized m (length olds)) c.size-2.ensures in
-    begin_done m olds news _ _ (view c.turn.new.self) fit c.in_ok-turn.ensures.answer c.turn.ensures.after
+    begin_done m olds news _ _ (view c.advance.new.self) fit c.in_ok-advance.ensures.answer c.advance.ensures.after

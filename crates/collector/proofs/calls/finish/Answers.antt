@@ -38,8 +38,8 @@ returns g c =
     let most : c.saturating_sub-most.result ≡ 16 + 2 * m.size - steps_of m.mode = c.saturating_sub-most.ensures ∙ ap (λ n. 16 + 2 * n - c.steps_made.result) c.size-3.ensures.value ∙ ap (λ n. 16 + 2 * m.size - n) c.steps_made.ensures in
     let whole = ap (λ n. march n (tour_of (banks_at m olds news))) most in
     record {
-      acted = finish_done m olds news _ (view c.make_steps.new.store) (view c.turn.new.self) _ _ c.tally-counts.result fit (sym c.if-make_steps.false ∙ c.make_steps.ensures.broken ∙ ap (λ s. s.broken) whole)
-          (c.make_steps.ensures.after ∙ ap (λ s. standing m.free s.tour) whole) c.tally-counts.ensures c.turn.ensures.after;
+      acted = finish_done m olds news _ (view c.make_steps.new.store) (view c.advance.new.self) _ _ c.tally-counts.result fit (sym c.if-make_steps.false ∙ c.make_steps.ensures.broken ∙ ap (λ s. s.broken) whole)
+          (c.make_steps.ensures.after ∙ ap (λ s. standing m.free s.tour) whole) c.tally-counts.ensures c.advance.ensures.after;
       old_rooted = c.make_steps.ensures.old_rooted;
       new_rooted = c.make_steps.ensures.new_rooted;
     }

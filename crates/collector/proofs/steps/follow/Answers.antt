@@ -3,14 +3,14 @@ use Rattle.store.specs.Record.{view}
 use Rattle.collector.proofs.Stepping.{step_not_refused, follows_again}
 use Rattle.collector.proofs.steps.follow.Goals as goal
 
-pub returns-in_err-turn-in-Sticky : goal.returns-in_err-turn-in-Sticky
-returns-in_err-turn-in-Sticky g c =
+pub returns-in_err-advance-in-Sticky : goal.returns-in_err-advance-in-Sticky
+returns-in_err-advance-in-Sticky g c =
     let m = view c.args.store.now in
     let olds = g.O.Bank.cells c.args.old.now in
     let news = g.N.Bank.cells c.args.new.now in
     let v = c.args.visit in
     let at = c.requires.visiting in
-    absurd (step_not_refused m v.steps v.copied v.marks at.mode at.left olds news false c.in_err-turn-in-Sticky.field-0.0 c.in_err-turn-in-Sticky.ensures.answer)
+    absurd (step_not_refused m v.steps v.copied v.marks at.mode at.left olds news false c.in_err-advance-in-Sticky.field-0.0 c.in_err-advance-in-Sticky.ensures.answer)
 
 pub returns-in-Unique : goal.returns-in-Unique
 returns-in-Unique g c =

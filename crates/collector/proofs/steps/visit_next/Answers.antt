@@ -9,7 +9,7 @@ returns-in-Nil g c =
     let olds = g.O.Bank.cells c.args.old.now in
     let news = g.N.Bank.cells c.args.new.now in
     let w = passes m c.args.steps c.args.copied c.args.marks c.requires.mode c.requires.left olds news c.place_of-place.result c.in_ok-cell.cell c.field_visited.result c.place_of-place.ensures
-    c.in_ok-cell.ensures c.field_visited.ensures (view c.turn.new.self) c.turn.result c.in-Nil.is c.turn.ensures.answer c.turn.ensures.after in
+    c.in_ok-cell.ensures c.field_visited.ensures (view c.advance.new.self) c.advance.result c.in-Nil.is c.advance.ensures.answer c.advance.ensures.after in
     record { went = w; old_rooted = refl; new_rooted = refl }
 
 pub returns-in-To : goal.returns-in-To

@@ -1,9 +1,9 @@
-use Rattle.std.proofs.Common.{ℕ, ◌+◌, drop, vec_items}
-use Rattle.texts.specs.Splits.{lines_of}
-use Rattle.texts.specs.Lists.{Listing, after, Listed}
+use Rattle.std.proofs.Common.{vec_items}
+use Rattle.texts.specs.Lists.{Tidy}
 use Rattle.texts.proofs.lists.read_list.Given as goal
 
-abbrev pub invariant-loop-i : goal.invariant-loop-i
-invariant-loop-i g l =
-    (r : Listing g.row.V.Denot) → Listed g.V.TypedLeaf.reads g.V.LeafKind.tidied (l.i + 1) (drop l.i (lines_of l.text)) r
-    → Listed g.V.TypedLeaf.reads g.V.LeafKind.tidied 1 (lines_of l.text) (after (vec_items l.entries) r)
+abbrev pub invariant-loop-line : goal.invariant-loop-line
+invariant-loop-line g l =
+    (goal.iterator-loop-line g).can_next l.line-iterator ×
+    (goal.iterator-loop-line g).is_finite l.line-iterator ×
+    Tidy g.V.LeafKind.lawful (vec_items l.entries)

@@ -1,30 +1,30 @@
 // How what a store does turns into something else.
 ghost use Rattle.std.specs.Prelude.{◌≡◌};
-ghost use Rattle.store.specs.Turns.{turn_answer, turned_model, hold_answer, held_model};
+ghost use Rattle.store.specs.Advances.{advance_answer, advanced_model, hold_answer, held_model};
 ghost use Rattle.store.specs.Record.{view};
 
 use crate::Mode;
 use crate::free::FreeList;
 use crate::hands::Hands;
 use crate::record::Record;
-use crate::turns::Event;
+use crate::turns::Happening;
 use cells::Field;
 use cells::causes::Cause;
 
 impl Record {
-    // Takes an event in, or refuses it and stays as it was.
-    pub fn turn(&mut self, event: Event) -> Result<(), Cause>
-        ensures answer { result ≡ turn_answer (view self.old) event }
-        ensures after { view self.new ≡ turned_model (view self.old) event }
+    // Takes a happening in, or refuses it and stays as it was.
+    pub fn advance(&mut self, happening: Happening) -> Result<(), Cause>
+        ensures answer { result ≡ advance_answer (view self.old) happening }
+        ensures after { view self.new ≡ advanced_model (view self.old) happening }
     {
-        match (&mut self.mode, event) {
+        match (&mut self.mode, happening) {
             (
                 Mode::Collecting {
                     steps,
                     copied,
                     marks,
                 },
-                Event::Stepped {
+                Happening::Stepped {
                     copies,
                     marks: marked,
                 },
@@ -36,25 +36,25 @@ impl Record {
                 *copied += copies as u16;
                 *marks += marked as u32;
             }
-            (Mode::Collecting { .. }, Event::Placed { hand, field }) => return self.hold(
+            (Mode::Collecting { .. }, Happening::Placed { hand, field }) => return self.hold(
                 hand, field,
             ),
-            (Mode::Collecting { copied, .. }, Event::Finished) => {
+            (Mode::Collecting { copied, .. }, Happening::Finished) => {
                 self.mark = *copied;
                 self.free = FreeList::new();
                 self.mode = Mode::Settled;
             }
-            (Mode::Collecting { .. }, Event::Abandoned) => {
+            (Mode::Collecting { .. }, Happening::Abandoned) => {
                 self.mark = 0;
                 self.hands = Hands::new();
                 self.free = FreeList::new();
                 self.mode = Mode::Settled;
             }
-            (Mode::Collecting { .. }, Event::Edited | Event::Begun) => return Err(
+            (Mode::Collecting { .. }, Happening::Edited | Happening::Begun) => return Err(
                 Cause::Collecting,
             ),
-            (_, Event::Edited) => self.mode = Mode::Working,
-            (_, Event::Begun) => self.mode = Mode::Collecting {
+            (_, Happening::Edited) => self.mode = Mode::Working,
+            (_, Happening::Begun) => self.mode = Mode::Collecting {
                 steps: 0,
                 copied: 0,
                 marks: 0,
