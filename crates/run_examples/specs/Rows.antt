@@ -36,11 +36,11 @@ answers_of tidied w (e ∷ es) = answer tidied w e ∷ answers_of tidied (after 
 -- the row that the definitions give for the same calls, with the members of the leaf kind and its number
 abbrev pub computed : {V : Type 0} → (V → Bool) → (V → Option V) → (V → ℕ) → ℕ → Row V → Row V
 computed lawful tidied word number r =
-    let w = run tidied (new_world (blanks r.size) []) r.events in
+    let w = run tidied (new_world (blanks r.size)) r.events in
     record {
       size = r.size;
       events = r.events;
-      answers = answers_of tidied (new_world (blanks r.size) []) r.events;
+      answers = answers_of tidied (new_world (blanks r.size)) r.events;
       free = w.banks.model.free;
       image = image_of lawful word number w.banks.model.hands (kept w.banks);
     }

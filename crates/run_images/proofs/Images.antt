@@ -14,10 +14,10 @@ use Rattle.images.specs.Writing.{length_for, write_answer, image_kept, bytes_aft
 use Rattle.images.proofs.Spelled.{image_length, hands_here, cells_here}
 use Rattle.images.proofs.Written.{nodes_all, settled_written}
 use Rattle.runs.specs.Sound.{Sound}
-use Rattle.runs.specs.Worlds.{Event, finishes, World, new_world, after}
-use Rattle.runs.specs.Law.{SizeAllowed, kept, ran_on, JustFinished}
+use Rattle.runs.specs.Worlds.{Event, finishes, World, world_beside, after}
+use Rattle.runs.specs.Law.{SizeAllowed, kept, ran_beside, JustFinished}
 use Rattle.runs.proofs.Settling.{kept_lawful}
-use Rattle.runs.proofs.TheLaw.{steady_run, ended, sound_last, the_law}
+use Rattle.runs.proofs.TheLaw.{steady_run, ended, sound_last, the_law_beside}
 use Rattle.run_images.specs.Saved.{closed, Saved, FinishedRunsAreSaved}
 use Rattle.runs.proofs.Sizes.{march_size, run_size}
 
@@ -50,16 +50,16 @@ module _ {V : Type 0} {lawful : V → Bool} {tidied : V → Option V} {word : V 
         counted = (t.hands, take t.copied t.new, count, of_kept);
       }
 
-  saved_now : (bank spare : List (Cell V)) (es : List (Event V)) (n k : ℕ) → SizeAllowed (length bank) → JustFinished tidied alike (ran_on tidied alike bank spare es) n k → Saved lawful tidied word alike number (closed lawful tidied word alike number bank spare es n k)
+  saved_now : (bank spare : List (Cell V)) (es : List (Event V)) (n k : ℕ) → SizeAllowed (length bank) → JustFinished tidied alike (ran_beside tidied alike bank spare es) n k → Saved lawful tidied word alike number (closed lawful tidied word alike number bank spare es n k)
   saved_now bank spare es n k ok (cells, marks, said) =
-      let w : World V = ran_on tidied alike bank spare es in
+      let w : World V = ran_beside tidied alike bank spare es in
       let g = steady_run laws bank spare es in
       let E = ended laws w g n k cells marks said in
-      let same : w.banks.model.size ≡ length bank = run_size tidied (new_world bank spare) es in
+      let same : w.banks.model.size ≡ length bank = run_size tidied (world_beside bank spare) es in
       let fits = ok.1 in
       settled_saved (after tidied w (finishes n k)) w.plain (march_all (tour_of w.banks)).tour w.banks.model.size (ap (λ x. x.banks) E.now)
       (march_size (16 + 2 * (tour_of w.banks).size - (tour_of w.banks).steps) (tour_of w.banks)) (omega arith)
-      (sound_last laws w g n k cells marks said) ((the_law laws).finished bank spare es ok n k cells marks said).canonical
+      (sound_last laws w g n k cells marks said) ((the_law_beside laws).finished bank spare es ok n k cells marks said).canonical
 
   -- images are equal exactly when hands and cells are
   image_equal : {a b : List ℕ} {hands hands' : List Field} {cells cells' : List (Cell V)} → ImageOf lawful word number a hands cells → ImageOf lawful word number b hands' cells' → (a ≡ b) ↔ ((hands ≡ hands') × (cells ≡ cells'))
@@ -73,6 +73,6 @@ module _ {V : Type 0} {lawful : V → Bool} {tidied : V → Option V} {word : V 
     saved = saved_now;
     compared = λ bank spare bank' spare' es es' n k n' k' ok ok' x x'.
         let same = image_equal (saved_now bank spare es n k ok x).image (saved_now bank' spare' es' n' k' ok' x').image in
-        let law = (the_law laws).compared bank spare bank' spare' es es' n k n' k' ok ok' x x' in
+        let law = (the_law_beside laws).compared bank spare bank' spare' es es' n k n' k' ok ok' x x' in
         (λ e. law.0 (same.0 e), λ e. same.1 (law.1 e));
   }

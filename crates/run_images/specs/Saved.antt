@@ -6,12 +6,12 @@ use Rattle.graph.specs.Graphs.{Alike}
 use Rattle.images.specs.Images.{ImageOf, IsImage}
 use Rattle.images.specs.Writing.{length_for, write_answer, image_kept, bytes_after}
 use Rattle.runs.specs.Worlds.{Event, finishes, World, after}
-use Rattle.runs.specs.Law.{SizeAllowed, kept, ran_on, JustFinished}
+use Rattle.runs.specs.Law.{SizeAllowed, kept, ran_beside, JustFinished}
 
 module _ {V : Type 0} (lawful : V → Bool) (tidied : V → Option V) (word : V → ℕ) (alike : V → V → Bool) (number : ℕ) where
   -- the world after a run that is closed by a Finish
   abbrev pub closed : List (Cell V) → List (Cell V) → List (Event V) → ℕ → ℕ → World V
-  closed bank spare es n k = after tidied (ran_on tidied alike bank spare es) (finishes n k)
+  closed bank spare es n k = after tidied (ran_beside tidied alike bank spare es) (finishes n k)
 
   -- the image of the store as it stands in a world
   abbrev pub image_in : World V → List ℕ
@@ -28,8 +28,8 @@ module _ {V : Type 0} (lawful : V → Bool) (tidied : V → Option V) (word : V 
 
   pub record FinishedRunsAreSaved : Type 0 where
     -- straight after an accepted Finish
-    pub saved : (bank spare : List (Cell V)) (es : List (Event V)) (n k : ℕ) → SizeAllowed (length bank) → JustFinished tidied alike (ran_on tidied alike bank spare es) n k → Saved (closed bank spare es n k)
+    pub saved : (bank spare : List (Cell V)) (es : List (Event V)) (n k : ℕ) → SizeAllowed (length bank) → JustFinished tidied alike (ran_beside tidied alike bank spare es) n k → Saved (closed bank spare es n k)
     -- the images of two runs are equal exactly when their plain graphs are alike
     pub compared : (bank spare bank' spare' : List (Cell V)) (es es' : List (Event V)) (n k n' k' : ℕ) → SizeAllowed (length bank) → SizeAllowed (length bank')
-        → JustFinished tidied alike (ran_on tidied alike bank spare es) n k → JustFinished tidied alike (ran_on tidied alike bank' spare' es') n' k'
-        → (image_in (closed bank spare es n k) ≡ image_in (closed bank' spare' es' n' k')) ↔ Alike alike (ran_on tidied alike bank spare es).plain (ran_on tidied alike bank' spare' es').plain
+        → JustFinished tidied alike (ran_beside tidied alike bank spare es) n k → JustFinished tidied alike (ran_beside tidied alike bank' spare' es') n' k'
+        → (image_in (closed bank spare es n k) ≡ image_in (closed bank' spare' es' n' k')) ↔ Alike alike (ran_beside tidied alike bank spare es).plain (ran_beside tidied alike bank' spare' es').plain

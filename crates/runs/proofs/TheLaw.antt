@@ -9,8 +9,8 @@ use Rattle.graph.proofs.Same.{canonical_stands_for_alike}
 use Rattle.collector.specs.Steps.{Tour, Stand, march}
 use Rattle.collector.specs.Collections.{Banks, kept_marks, tour_of, settled, march_all}
 use Rattle.runs.specs.Sound.{Sound}
-use Rattle.runs.specs.Worlds.{Event, finishes, World, new_world, Said, replied, answer, after, run}
-use Rattle.runs.specs.Law.{Finished, FinishedRightly, JustFinished, LawOverRuns, kept, ran_on}
+use Rattle.runs.specs.Worlds.{Event, finishes, World, world_beside, Said, replied, answer, after, run}
+use Rattle.runs.specs.Law.{Finished, FinishedRightly, JustFinished, LawOverRuns, LawBesideAnySpare, kept, ran_beside}
 use Rattle.runs.proofs.Worldly.{InTour, Good, Ended, good_new, good_run, finish_ended, throughout_runs}
 use Rattle.runs.proofs.Settling.{alike_self, sound_alike, kept_lawful, plain_accepted}
 use Rattle.runs.proofs.TourVisits.{Log, start_log}
@@ -50,8 +50,8 @@ module _ {V : Type 0} {lawful : V → Bool} {tidied : V → Option V} {word : V 
   abbrev Steady : World V → Type 0
   Steady = Good laws Stands starts goes stays arrives
 
-  pub steady_run : (bank spare : List (Cell V)) (es : List (Event V)) → Steady (run tidied (new_world bank spare) es)
-  steady_run bank spare es = good_run laws Stands starts goes stays arrives (new_world bank spare) es (good_new laws Stands starts goes stays arrives bank spare)
+  pub steady_run : (bank spare : List (Cell V)) (es : List (Event V)) → Steady (run tidied (world_beside bank spare) es)
+  steady_run bank spare es = good_run laws Stands starts goes stays arrives (world_beside bank spare) es (good_new laws Stands starts goes stays arrives bank spare)
 
   -- ---- an accepted Finish
 
@@ -105,9 +105,17 @@ module _ {V : Type 0} {lawful : V → Bool} {tidied : V → Option V} {word : V 
       (plain_accepted laws S) (plain_accepted laws S')
       F.alike_plain F'.alike_plain
 
+  pub the_law_beside : LawBesideAnySpare tidied alike
+  the_law_beside = record {
+    throughout = λ bank spare es _. throughout_runs laws Stands starts goes stays arrives bank spare es;
+    finished = λ bank spare es _ n k cells marks ok. finished_now (run tidied (world_beside bank spare) es) (steady_run bank spare es) n k cells marks ok;
+    compared = λ bank spare bank' spare' es es' n k n' k' _ _ x x'. compared (run tidied (world_beside bank spare) es) (run tidied (world_beside bank' spare') es') (steady_run bank spare es) (steady_run bank' spare' es') n k n' k' x x';
+  }
+
+  -- with no spare bank at first
   pub the_law : LawOverRuns tidied alike
   the_law = record {
-    throughout = λ bank spare es _. throughout_runs laws Stands starts goes stays arrives bank spare es;
-    finished = λ bank spare es _ n k cells marks ok. finished_now (run tidied (new_world bank spare) es) (steady_run bank spare es) n k cells marks ok;
-    compared = λ bank spare bank' spare' es es' n k n' k' _ _ x x'. compared (run tidied (new_world bank spare) es) (run tidied (new_world bank' spare') es') (steady_run bank spare es) (steady_run bank' spare' es') n k n' k' x x';
+    throughout = λ bank es. the_law_beside.throughout bank [] es;
+    finished = λ bank es. the_law_beside.finished bank [] es;
+    compared = λ bank bank' es es'. the_law_beside.compared bank [] bank' [] es es';
   }

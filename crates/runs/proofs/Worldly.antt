@@ -19,7 +19,7 @@ use Rattle.collector.specs.Collections.{Act, begin, slice, finish, abandon, Bank
 use Rattle.runs.specs.Plain.{plain_call, plain_abandon, plain_sight}
 use Rattle.runs.specs.Sound.{Sound}
 use Rattle.runs.specs.Kept.{SoundAt}
-use Rattle.runs.specs.Worlds.{Event, calls, begins, slices, finishes, abandons, World, new_world, Said, answered, replied, saying, state_of, answer, cause, banks_after, next, after, if_accepted, run}
+use Rattle.runs.specs.Worlds.{Event, calls, begins, slices, finishes, abandons, World, world_beside, Said, answered, replied, saying, state_of, answer, cause, banks_after, next, after, if_accepted, run}
 use Rattle.runs.specs.Law.{RefusedRightly, LooksPlain, KeptHonest, Throughout}
 use Rattle.runs.proofs.Called.{row_none, Admitted, admitted, sound_effect, cause_not_spoiled, look_plain, sound_new}
 
@@ -95,7 +95,7 @@ module _ {V : Type 0} {lawful : V → Bool} {tidied : V → Option V} {word : V 
     pub outside : is_collecting w.banks.model.mode ≡ false → SoundAt lawful w.banks.model w.banks.cells w.plain
     pub inside : is_collecting w.banks.model.mode ≡ true → InTour w
 
-  pub good_new : (cells spare : List (Cell V)) → Good (new_world cells spare)
+  pub good_new : (cells spare : List (Cell V)) → Good (world_beside cells spare)
   good_new cells spare = record { outside = λ _. sound_new lawful cells []; inside = λ e. absurd (yes_no e refl) }
 
   -- ---- a world after a call, by the cause for which it is refused, if any
@@ -410,5 +410,5 @@ module _ {V : Type 0} {lawful : V → Bool} {tidied : V → Option V} {word : V 
   good_run w (e ∷ es) g = good_run (after tidied w e) es (good_after w g e)
 
   -- what holds throughout every run
-  pub throughout_runs : (bank spare : List (Cell V)) (es : List (Event V)) → Throughout tidied alike (run tidied (new_world bank spare) es)
-  throughout_runs bank spare es = good_throughout (run tidied (new_world bank spare) es) (good_run (new_world bank spare) es (good_new bank spare))
+  pub throughout_runs : (bank spare : List (Cell V)) (es : List (Event V)) → Throughout tidied alike (run tidied (world_beside bank spare) es)
+  throughout_runs bank spare es = good_throughout (run tidied (world_beside bank spare) es) (good_run (world_beside bank spare) es (good_new bank spare))

@@ -17,7 +17,7 @@ use Rattle.collector.specs.Collections.{Banks, Reply, kept_marks, tour_of, march
 use Rattle.collector.specs.Steps.{Tour, Stand}
 use Rattle.runs.specs.Plain.{plain_sight}
 use Rattle.runs.specs.Sound.{Listed}
-use Rattle.runs.specs.Worlds.{Event, calls, finishes, World, Said, answered, replied, new_world, answer, cause, after, run}
+use Rattle.runs.specs.Worlds.{Event, calls, finishes, World, Said, answered, replied, new_world, world_beside, answer, cause, after, run}
 
 -- a size that a store may have
 abbrev pub SizeAllowed : ℕ → Type 0
@@ -92,8 +92,12 @@ module _ {V : Type 0} (tidied : V → Option V) (alike : V → V → Bool) where
 
   -- ---- the law
 
-  abbrev pub ran_on : List (Cell V) → List (Cell V) → List (Event V) → World V
-  ran_on cells spare es = run tidied (new_world cells spare) es
+  abbrev pub ran_on : List (Cell V) → List (Event V) → World V
+  ran_on cells es = run tidied (new_world cells) es
+
+  -- the same beside any spare bank, which is not in use yet
+  abbrev pub ran_beside : List (Cell V) → List (Cell V) → List (Event V) → World V
+  ran_beside cells spare es = run tidied (world_beside cells spare) es
 
   -- a world straight after an accepted Finish
   abbrev pub JustFinished : World V → ℕ → ℕ → Type 0
@@ -101,12 +105,25 @@ module _ {V : Type 0} (tidied : V → Option V) (alike : V → V → Bool) where
 
   pub record LawOverRuns : Type 0 where
     -- in every run, at every point of it
-    pub throughout : (bank spare : List (Cell V)) (es : List (Event V)) → SizeAllowed (length bank) → Throughout (ran_on bank spare es)
+    pub throughout : (bank : List (Cell V)) (es : List (Event V)) → SizeAllowed (length bank) → Throughout (ran_on bank es)
     -- straight after an accepted Finish
-    pub finished : (bank spare : List (Cell V)) (es : List (Event V)) → SizeAllowed (length bank) → FinishedRightly (ran_on bank spare es)
+    pub finished : (bank : List (Cell V)) (es : List (Event V)) → SizeAllowed (length bank) → FinishedRightly (ran_on bank es)
+    -- two runs that close with an accepted Finish have equal hands and equal kept cells exactly when their plain graphs are alike
+    pub compared : (bank bank' : List (Cell V)) (es es' : List (Event V)) (n k n' k' : ℕ) → SizeAllowed (length bank) → SizeAllowed (length bank')
+        → JustFinished (ran_on bank es) n k → JustFinished (ran_on bank' es') n' k'
+        → (((after tidied (ran_on bank es) (finishes n k)).banks.model.hands ≡ (after tidied (ran_on bank' es') (finishes n' k')).banks.model.hands)
+        × (kept (after tidied (ran_on bank es) (finishes n k)).banks ≡ kept (after tidied (ran_on bank' es') (finishes n' k')).banks))
+        ↔ Alike alike (ran_on bank es).plain (ran_on bank' es').plain
+
+  -- the law, whatever stands in the spare bank before it is first used
+  pub record LawBesideAnySpare : Type 0 where
+    -- in every run, at every point of it
+    pub throughout : (bank spare : List (Cell V)) (es : List (Event V)) → SizeAllowed (length bank) → Throughout (ran_beside bank spare es)
+    -- straight after an accepted Finish
+    pub finished : (bank spare : List (Cell V)) (es : List (Event V)) → SizeAllowed (length bank) → FinishedRightly (ran_beside bank spare es)
     -- two runs that close with an accepted Finish have equal hands and equal kept cells exactly when their plain graphs are alike
     pub compared : (bank spare bank' spare' : List (Cell V)) (es es' : List (Event V)) (n k n' k' : ℕ) → SizeAllowed (length bank) → SizeAllowed (length bank')
-        → JustFinished (ran_on bank spare es) n k → JustFinished (ran_on bank' spare' es') n' k'
-        → (((after tidied (ran_on bank spare es) (finishes n k)).banks.model.hands ≡ (after tidied (ran_on bank' spare' es') (finishes n' k')).banks.model.hands)
-        × (kept (after tidied (ran_on bank spare es) (finishes n k)).banks ≡ kept (after tidied (ran_on bank' spare' es') (finishes n' k')).banks))
-        ↔ Alike alike (ran_on bank spare es).plain (ran_on bank' spare' es').plain
+        → JustFinished (ran_beside bank spare es) n k → JustFinished (ran_beside bank' spare' es') n' k'
+        → (((after tidied (ran_beside bank spare es) (finishes n k)).banks.model.hands ≡ (after tidied (ran_beside bank' spare' es') (finishes n' k')).banks.model.hands)
+        × (kept (after tidied (ran_beside bank spare es) (finishes n k)).banks ≡ kept (after tidied (ran_beside bank' spare' es') (finishes n' k')).banks))
+        ↔ Alike alike (ran_beside bank spare es).plain (ran_beside bank' spare' es').plain

@@ -9,7 +9,7 @@ use Rattle.store.specs.Record.{view}
 use Rattle.collector.specs.Collections.{Banks}
 use Rattle.runs.specs.declared.keepers.Keeper.{Keeper}
 use Rattle.runs.specs.declared.rigs.Rig.{Rig}
-use Rattle.runs.specs.Worlds.{new_world}
+use Rattle.runs.specs.Worlds.{world_beside}
 use Rattle.runs.specs.Scripts.{exchanged_if}
 
 abbrev pub kept_by : Result Keeper Cause → Result Model Cause
@@ -27,7 +27,7 @@ pub record Fits {V : Type 0} (b : Banks V) : Type 0 where
 
 -- a new store on the first bank, with the other bank beside it; or why there is none
 abbrev pub Started : {V A B : Type 0} → (A → List (Cell V)) → (B → List (Cell V)) → A → B → Result (Rig A B) Cause → Type 0
-Started f g first second (Ok r) = (size_cause (length (f first)) ≡ None) × (banks_of f g r ≡ (new_world (f first) (g second)).banks) × Fits (banks_of f g r)
+Started f g first second (Ok r) = (size_cause (length (f first)) ≡ None) × (banks_of f g r ≡ (world_beside (f first) (g second)).banks) × Fits (banks_of f g r)
 Started f g first second (Err c) = size_cause (length (f first)) ≡ Some c
 
 abbrev pub answered_with : Result Unit Cause → Model → Result Model Cause

@@ -25,9 +25,18 @@ pub record World (V : Type 0) : Type 0 where
   pub begun_hands : List Field
   pub begun_cells : List (Cell V)
 
--- a new store over any cells, with any spare bank beside it, which is not in use yet
-abbrev pub new_world : {V : Type 0} → List (Cell V) → List (Cell V) → World V
-new_world cells spare = record {
+-- a new store over any cells
+abbrev pub new_world : {V : Type 0} → List (Cell V) → World V
+new_world cells = record {
+  banks = record { model = new_model (length cells); cells = cells; fresh = [] };
+  plain = empty_graph;
+  begun_hands = [];
+  begun_cells = [];
+}
+
+-- and with any spare bank beside it, which is not in use yet
+abbrev pub world_beside : {V : Type 0} → List (Cell V) → List (Cell V) → World V
+world_beside cells spare = record {
   banks = record { model = new_model (length cells); cells = cells; fresh = spare };
   plain = empty_graph;
   begun_hands = [];

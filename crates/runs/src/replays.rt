@@ -1,6 +1,6 @@
 // Whole scripts.
 ghost use Rattle.std.specs.Prelude.{◌≡◌, ◌+◌, ◌≤◌, ◌++◌, map, length, Ok, Err, vec_len, vec_capacity};
-ghost use Rattle.runs.specs.Law.{LawOverRuns};
+ghost use Rattle.runs.specs.Law.{LawBesideAnySpare};
 ghost use Rattle.runs.specs.Worlds.{run};
 ghost use Rattle.runs.specs.Scripts.{said_by, events_of, answers_of};
 ghost use Rattle.runs.specs.Rigs.{banks_of, Fits};
@@ -46,7 +46,7 @@ pub fn replay<V: LeafKind, A: Bank<V> + Drop, B: Bank<V> + Drop>(
 ) -> Result<(Rig<A, B>, Vec<Result<Answer<V>, Cause>>), Unplayed>
     ensures replayed { elim result [ Ok p ↦ Replayed V.tidied (A.cells first) (B.cells second) script.now p.1.items (banks_of A.cells B.cells p.0) | Err e ↦ unplayed (length (A.cells first)) e ] }
     ensures fits { elim result [ Ok p ↦ Fits (banks_of A.cells B.cells p.0) | Err e ↦ Unit {0} ] }
-    ensures law { LawOverRuns V.tidied V.alike }
+    ensures law { LawBesideAnySpare V.tidied V.alike }
 {
     let Ok(mut answers) = Vec::with_capacity(heap, script.len()) else {
         return Err(Unplayed::Memory);

@@ -2,7 +2,7 @@
 ghost use Rattle.std.specs.Prelude.{◌≡◌, length};
 ghost use Rattle.store.specs.Record.{view};
 ghost use Rattle.collector.specs.Visits.{banks_at};
-ghost use Rattle.runs.specs.Law.{LawOverRuns};
+ghost use Rattle.runs.specs.Law.{LawBesideAnySpare};
 ghost use Rattle.runs.specs.Scripts.{Made, exchanges, exchanged_if};
 ghost use Rattle.cells.specs.Banks.{cell_at};
 ghost use Rattle.images.specs.Opening.{Opened};
@@ -70,7 +70,7 @@ impl<A, B> Rig<A, B> {
         B: Bank<V>,
         ensures made { Made V.tidied call (banks_of A.Bank.cells B.Bank.cells self.old) result (banks_of A.Bank.cells B.Bank.cells self.new) }
         ensures fits { Fits (banks_of A.Bank.cells B.Bank.cells self.old) → Fits (banks_of A.Bank.cells B.Bank.cells self.new) }
-        ensures law { LawOverRuns V.tidied V.alike }
+        ensures law { LawBesideAnySpare V.tidied V.alike }
     {
         self.made(call)
     }

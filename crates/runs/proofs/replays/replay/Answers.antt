@@ -3,7 +3,7 @@ use Rattle.runs.specs.Worlds.{run}
 use Rattle.runs.specs.Scripts.{said_by, events_of, answers_of}
 use Rattle.runs.specs.Rigs.{banks_of}
 use Rattle.runs.specs.Replays.{world_at}
-use Rattle.runs.proofs.TheLaw.{the_law}
+use Rattle.runs.proofs.TheLaw.{the_law_beside}
 use Rattle.runs.proofs.replays.replay.Goals as goal
 
 pub returns-in-Ok-new : goal.returns-in-Ok-new
@@ -20,11 +20,11 @@ returns-in-Ok-new g c =
         left = c.play.ensures.after ∙ ap (λ b. (run tidied (world_at b) (events_of tidied (world_at b) script)).banks) start.1;
       };
       fits = c.play.ensures.fits start.2;
-      law = the_law g.met.V.LeafKind.laws;
+      law = the_law_beside g.met.V.LeafKind.laws;
     }
 
 pub returns-in-Err : goal.returns-in-Err
-returns-in-Err g c = record { replayed = c.in-Err.ensures; fits = tt; law = the_law g.met.V.LeafKind.laws }
+returns-in-Err g c = record { replayed = c.in-Err.ensures; fits = tt; law = the_law_beside g.met.V.LeafKind.laws }
 
 pub returns-in_default : goal.returns-in_default
-returns-in_default g c = record { replayed = tt; fits = tt; law = the_law g.met.V.LeafKind.laws }
+returns-in_default g c = record { replayed = tt; fits = tt; law = the_law_beside g.met.V.LeafKind.laws }

@@ -3,7 +3,7 @@ use Rattle.runs.specs.Plain.{empty_graph}
 use Rattle.runs.specs.Worlds.{World}
 use Rattle.runs.specs.Rigs.{banks_of, Fits}
 use Rattle.runs.proofs.Fitting.{next_fits}
-use Rattle.runs.proofs.TheLaw.{the_law}
+use Rattle.runs.proofs.TheLaw.{the_law_beside}
 use Rattle.runs.proofs.rigs.Rig.call.Goals as goal
 
 pub returns : goal.returns
@@ -13,5 +13,5 @@ returns g c =
     record {
       made = c.made.ensures.made;
       fits = λ fits. subst Fits (sym (c.made.ensures.made.after w refl)) (next_fits g.V.LeafKind.tidied w fits c.args.call);
-      law = the_law g.met.V.LeafKind.laws;
+      law = the_law_beside g.met.V.LeafKind.laws;
     }
