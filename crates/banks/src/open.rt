@@ -100,7 +100,7 @@ impl<'a, V: LeafKind> OpenBank<'a, V> {
 }
 
 impl<'a, V: LeafKind> Bank<V> for OpenBank<'a, V> {
-    ghost cells = { λ b. open_cells V.LeafKind.lawful b.lent.now };
+    ghost cells = { λ b. open_cells V.lawful b.lent.now };
 
     ghost root = { λ b. b.lent.ghost_name };
 

@@ -106,7 +106,7 @@ impl<'a> PackedBank<'a> {
 }
 
 impl<'a, V: LeafKind> Bank<V> for PackedBank<'a> {
-    ghost cells = { λ b. packed_cells V.LeafKind.taken b.lent.now };
+    ghost cells = { λ b. packed_cells V.taken b.lent.now };
 
     ghost root = { λ b. b.lent.ghost_name };
 

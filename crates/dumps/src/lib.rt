@@ -84,7 +84,7 @@ fn moved_text(heap: Global, forward: Reference, source: Source) -> Result<String
 
 // A cell in words.
 pub fn cell_text<V: TypedLeaf>(heap: Global, c: Cell<V>) -> Result<String, AllocError>
-    ensures { IfOk result (λ t. CellText V.LeafKind.lawful V.LeafKind.word V.shows c (string_bytes t)) }
+    ensures { IfOk result (λ t. CellText V.lawful V.word V.shows c (string_bytes t)) }
 {
     match c {
         Cell::Blank => String::from_str(heap, "blank"),

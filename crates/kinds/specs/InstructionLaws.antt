@@ -1,9 +1,8 @@
 -- Instructions keep the laws of a leaf kind. Assumes nothing.
-use Rattle.std.specs.Prelude.{◌≡◌, ℕ, suc, ◌+◌, ◌*◌, ◌/◌, ◌%◌, ◌^◌, ◌<◌, Bool, true, cond, ◌&&◌, ℤ, pos, negsuc, Some, None, FitsSigned, ◌==◌, nat_eq, refl}
-use Rattle.std.proofs.Common.{sym, ap, ◌∙◌, arith, of_z, to_z, Fits}
-use Rattle.std.specs.Int.Signed.{mag}
+use Rattle.std.specs.Prelude.{◌≡◌, ℕ, ◌+◌, ◌*◌, ◌/◌, ◌%◌, ◌^◌, ◌<◌, Bool, true, cond, ◌&&◌, ℤ, pos, negsuc, Some, None, FitsSigned, ◌==◌, nat_eq, refl}
+use Rattle.std.proofs.Common.{sym, ap, ◌∙◌, arith, of_z, to_z}
 use Rattle.std.specs.Int.{w32}
-use mir.ValLaws.{to_z-Fits, of_z_fits, to_z-of_z, of_z-to_z}
+use mir.ValLaws.{of_z_fits, to_z-of_z, of_z-to_z}
 use Rattle.std.proofs.lemmas.Bool.Decides.{nat_tests}
 use Rattle.cells.specs.Leaves.{Laws}
 use Rattle.kinds.specs.declared.instructions.Instruction.{Instruction}

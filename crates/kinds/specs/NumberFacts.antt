@@ -1,6 +1,6 @@
 -- What the float library lacks, over one number: a zero by its digits, equal numbers by the patterns of the tidied ones,
 -- plain by the pattern, and the round trips of a plain number. Assumes nothing.
-use Rattle.std.specs.Prelude.{◌≡◌, ℕ, zero, suc, ◌+◌, ◌-◌, ◌*◌, ◌/◌, ◌%◌, ◌^◌, ◌<◌, ◌≤◌, Bool, true, false, cond, not, ◌&&◌, T, ℤ, pos, negsuc, Some, None, ◌==◌, nat_eq, nat_le, nat_lt, refl, Float}
+use Rattle.std.specs.Prelude.{◌≡◌, ℕ, zero, suc, ◌+◌, ◌-◌, ◌*◌, ◌/◌, ◌%◌, ◌^◌, ◌<◌, Bool, true, false, cond, not, ◌&&◌, T, ℤ, pos, negsuc, Some, ◌==◌, nat_eq, nat_le, nat_lt, refl, Float}
 use Rattle.std.proofs.Common.{sym, ap, ◌∙◌, subst, mul_comm, mul_assoc, mul-pos, zero-lt-suc, arith, pow_pos}
 use Rattle.std.proofs.Math.Nat.{pow-succ'}
 use Rattle.std.proofs.Math.Dec.{eqb-suc-zero}
@@ -9,7 +9,7 @@ use Rattle.std.specs.Float.Ieee.Bits.{is_true, of_bits-to_bits, to_bits-lt, of_b
 use Rattle.std.specs.Float.Ieee.Fits.{up_pos, down_pos}
 use Rattle.std.specs.Float.Ieee.Nearest.{div_same}
 use Rattle.std.specs.Float as floats
-use Rattle.std.specs.Float.{float_is_finite, is_sign_negative, nan, inf, fin, Format, binary32}
+use Rattle.std.specs.Float.{float_is_finite, is_sign_negative, nan, inf, fin, binary32}
 use Rattle.std.proofs.lemmas.Bool.Decides.{nat_tests}
 use Rattle.kinds.specs.Numbers.{accepted, plain, tidied_number, pattern, plain_pattern, taken_number}
 

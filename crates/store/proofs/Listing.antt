@@ -1,8 +1,8 @@
 -- The free list: an address listed on top, and the top taken off.
-use Rattle.std.proofs.Common.{◌≡◌, ℕ, ◌-◌, ◌<◌, ◌≤◌, List, length, get_or, take, Some, None, Option, sym, refl, ap, ◌∙◌, arith}
+use Rattle.std.proofs.Common.{◌≡◌, ℕ, ◌-◌, ◌<◌, ◌≤◌, List, length, get_or, take, Some, sym, ap, ◌∙◌, arith}
 use Rattle.std.proofs.lemmas.List.{length-take-le, get_or-take, take-take}
 use Rattle.std.proofs.lemmas.Bool.Decides.{nat_tests}
-use Rattle.store.specs.Fields.{top, below_top}
+use Rattle.store.specs.Fields.{below_top}
 use Rattle.store.specs.Bounds.{listed, top_of, listed_at}
 
 pub top_listed : (xs : List ℕ) (n : ℕ) → n ≤ length xs → (n ≡ 0 → ⊥) → Some (get_or xs (n - 1) 0) ≡ top_of (listed n xs)

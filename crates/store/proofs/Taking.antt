@@ -1,9 +1,8 @@
 -- An address is taken: the mark where nothing is listed, else the top of the list, whose cell lets go of what it held.
-use Rattle.std.proofs.Common.{◌≡◌, ℕ, zero, suc, ◌+◌, ◌-◌, ◌<◌, ◌≤◌, Bool, true, false, not, ◌&&◌, ◌||◌, eqb, ltb, List, [], ◌∷◌, length, get_or, take, set, Some, None, Option, sym, refl, ap, ◌∙◌, subst, arith}
+use Rattle.std.proofs.Common.{◌≡◌, ℕ, zero, suc, ◌+◌, ◌-◌, ◌<◌, ◌≤◌, Bool, true, false, not, ◌&&◌, ◌||◌, eqb, ltb, List, [], ◌∷◌, length, get_or, set, Some, None, sym, refl, ap, ◌∙◌, subst, arith}
 use Rattle.std.proofs.lemmas.List.{length-append, set_past}
 use Rattle.std.proofs.lemmas.Bool.{cond-false}
 use Rattle.std.proofs.lemmas.Bool.Decides.{nat_tests}
-use Rattle.cells.specs.declared.Tag.TheVariants.{Unique, Sticky}
 use Rattle.cells.specs.declared.Field.{Field}
 use Rattle.cells.specs.declared.Field.TheVariants.{Nil, To}
 use Rattle.cells.specs.declared.Cell.{Cell}
@@ -12,7 +11,7 @@ use Rattle.cells.specs.Banks.{storable, after_put}
 use Rattle.store.specs.Model.{Model, hand_of}
 use Rattle.store.specs.Fields.{unique, unique_field, past, top, below_top, let_go, let_go_sides, taking}
 use Rattle.store.specs.Bounds.{top_of, hands_below, listed_below}
-use Rattle.store.specs.Calls.{full, placed, State}
+use Rattle.store.specs.Calls.{full}
 use Rattle.store.specs.Called.{state_at}
 use Rattle.store.specs.Record.{top_taken, field_let_go}
 use Rattle.store.specs.Parts.{roomy, taken_model, changed, placed_state}

@@ -1,5 +1,5 @@
 -- What the code of a call answers and leaves. Assumes nothing.
-use Rattle.std.specs.Prelude.{◌≡◌, ℕ, List, length, Ok, Err, Option, Result}
+use Rattle.std.specs.Prelude.{◌≡◌, List, length, Ok, Err, Option, Result}
 use Rattle.cells.specs.declared.Cell.{Cell}
 use Rattle.cells.specs.declared.causes.Cause.{Cause}
 use Rattle.store.specs.declared.Sight.{Sight}

@@ -2,7 +2,6 @@
 use Rattle.std.specs.Prelude.{ℕ, ◌+◌, ◌-◌, Bool, true, false, cond, not, ◌&&◌, List, [], ◌∷◌, ◌++◌, length, take, ◌==◌, nat_lt, slice_index, slice_index_or}
 use Rattle.cells.specs.declared.Tag.{Tag}
 use Rattle.cells.specs.declared.Tag.TheVariants.{Unique, Sticky}
-use Rattle.cells.specs.declared.Reference.{Reference}
 use Rattle.cells.specs.declared.Field.{Field}
 use Rattle.cells.specs.declared.Field.TheVariants.{Nil, To}
 use Rattle.cells.specs.declared.Side.{Side}

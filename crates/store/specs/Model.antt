@@ -1,5 +1,5 @@
 -- The record of a store, without its proofs. Assumes nothing.
-use Rattle.std.specs.Prelude.{ℕ, ◌+◌, ◌*◌, ◌<◌, ◌≤◌, Bool, true, false, cond, List, [], replicate, slice_index_or}
+use Rattle.std.specs.Prelude.{ℕ, Bool, true, false, List, [], replicate, slice_index_or}
 use Rattle.cells.specs.declared.Field.{Field}
 use Rattle.cells.specs.declared.Field.TheVariants.{Nil}
 use Rattle.store.specs.declared.Mode.{Mode}

@@ -1,5 +1,5 @@
 -- The parts that the code of several calls shares, and what each gives. What a call means is said without them. Assumes nothing.
-use Rattle.std.specs.Prelude.{ℕ, Bool, cond, not, ◌&&◌, ◌||◌, List, [], ◌∷◌, length, Ok, Err, Result, ◌==◌, nat_lt, slice_index_or, slice_set}
+use Rattle.std.specs.Prelude.{ℕ, Bool, cond, not, ◌||◌, List, [], ◌∷◌, length, Ok, Err, Result, ◌==◌, nat_lt, slice_index_or, slice_set}
 use Rattle.cells.specs.declared.Field.{Field}
 use Rattle.cells.specs.declared.Field.TheVariants.{Nil, To}
 use Rattle.cells.specs.declared.Side.{Side}
@@ -10,8 +10,8 @@ use Rattle.cells.specs.declared.causes.Cause.{Cause}
 use Rattle.cells.specs.declared.causes.Cause.TheVariants.{OtherSize, NoSuchHand, Collecting, NilHand, LeafCell, Spoiled, NoRoom}
 use Rattle.store.specs.declared.Mode.TheVariants.{Working}
 use Rattle.store.specs.declared.record.targets.Target.{Target}
-use Rattle.store.specs.Model.{Model, hand_of, is_collecting}
-use Rattle.store.specs.Fields.{Taken, taking}
+use Rattle.store.specs.Model.{Model, is_collecting}
+use Rattle.store.specs.Fields.{Taken}
 use Rattle.store.specs.Calls.{State, first, unless, full, placed}
 use Rattle.store.specs.Called.{state_at}
 

@@ -1,5 +1,5 @@
 -- One digit more. Assumes nothing.
-use Rattle.std.proofs.Common.{◌≡◌, ℕ, zero, suc, ◌-◌, ◌/◌, ◌%◌, ◌<◌, List, [], ◌∷◌, ◌++◌, sym, refl, ap, arith}
+use Rattle.std.proofs.Common.{◌≡◌, ℕ, zero, suc, ◌-◌, ◌/◌, ◌%◌, ◌<◌, [], ◌∷◌, ◌++◌, sym, ap, arith}
 use Rattle.texts.specs.Hex.{hex_digit, hex}
 
 pub hex_more : (k w : ℕ) → 0 < k → hex k w ≡ hex (k - 1) (w / 16) ++ (hex_digit (w % 16) ∷ [])

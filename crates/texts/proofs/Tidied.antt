@@ -1,5 +1,5 @@
 -- One tidy entry more. Assumes nothing.
-use Rattle.std.proofs.Common.{◌≡◌, ℕ, zero, suc, ◌<◌, Bool, List, [], ◌∷◌, ◌++◌, length, get_or, sym, subst, arith}
+use Rattle.std.proofs.Common.{◌≡◌, zero, suc, Bool, List, [], ◌∷◌, ◌++◌, sym, subst, arith}
 use Rattle.texts.specs.declared.lists.Entry.{Entry}
 use Rattle.texts.specs.Lists.{Lawful, Tidy}
 

@@ -1,5 +1,5 @@
 -- The lines of a text and the words of a line, over bytes. Assumes nothing.
-use Rattle.std.specs.Prelude.{ℕ, Bool, true, false, cond, ◌&&◌, ◌||◌, List, [], ◌∷◌, ◌++◌, length, ◌==◌, nat_le, nat_lt, slice_index, slice_index_or}
+use Rattle.std.specs.Prelude.{ℕ, Bool, true, cond, ◌&&◌, ◌||◌, List, [], ◌∷◌, ◌++◌, length, ◌==◌, nat_le, nat_lt, slice_index, slice_index_or}
 use Rattle.texts.specs.declared.splits.Separator.{Separator}
 use Rattle.texts.specs.declared.splits.Separator.TheVariants.{Newline, Space}
 

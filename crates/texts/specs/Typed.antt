@@ -1,5 +1,5 @@
 -- What typed words are read as. Assumes nothing.
-use Rattle.std.specs.Prelude.{◌≡◌, ℕ, ◌^◌, Bool, false, cond, ◌&&◌, List, [], map, length, ℤ, pos, negsuc, Some, None, Ok, Err, Option, Result, MatchOption, ◌≢◌, nat_lt, slice_index_or, Float}
+use Rattle.std.specs.Prelude.{◌≡◌, ℕ, ◌^◌, false, cond, ◌&&◌, List, [], map, length, ℤ, pos, negsuc, Some, None, Ok, Err, Option, Result, MatchOption, ◌≢◌, nat_lt, slice_index_or, Float}
 use Rattle.std.specs.Int.Signed.{mag}
 use Rattle.std.specs.Float.{binary32}
 use Rattle.std.specs.Int.{w64}

@@ -51,7 +51,7 @@ impl<A, B> Rig<A, B> {
     where
         A: Bank<V> + Drop,
         B: Bank<V> + Drop,
-        ensures { Started A.Bank.cells B.Bank.cells first second result }
+        ensures { Started A.cells B.cells first second result }
     {
         let keeper = Keeper::new(first.size())?;
         Ok(Rig {
@@ -68,8 +68,8 @@ impl<A, B> Rig<A, B> {
     where
         A: Bank<V>,
         B: Bank<V>,
-        ensures made { Made V.tidied call (banks_of A.Bank.cells B.Bank.cells self.old) result (banks_of A.Bank.cells B.Bank.cells self.new) }
-        ensures fits { Fits (banks_of A.Bank.cells B.Bank.cells self.old) → Fits (banks_of A.Bank.cells B.Bank.cells self.new) }
+        ensures made { Made V.tidied call (banks_of A.cells B.cells self.old) result (banks_of A.cells B.cells self.new) }
+        ensures fits { Fits (banks_of A.cells B.cells self.old) → Fits (banks_of A.cells B.cells self.new) }
         ensures law { LawBesideAnySpare V.tidied V.alike }
     {
         self.made(call)
@@ -79,7 +79,7 @@ impl<A, B> Rig<A, B> {
     where
         A: Bank<V>,
         B: Bank<V>,
-        ensures made { Made V.tidied call (banks_of A.Bank.cells B.Bank.cells self.old) result (banks_of A.Bank.cells B.Bank.cells self.new) }
+        ensures made { Made V.tidied call (banks_of A.cells B.cells self.old) result (banks_of A.cells B.cells self.new) }
     {
         let answer = if self.turned {
             make(&mut self.keeper, &mut self.second, &mut self.first, call)
@@ -97,8 +97,8 @@ impl<A, B> Rig<A, B> {
     where
         A: Bank<V>,
         B: Bank<V>,
-        ensures replaced { Replaced (Opened V.lawful V.word V.taken V.number image.now) (banks_of A.Bank.cells B.Bank.cells self.old) result (banks_of A.Bank.cells B.Bank.cells self.new) }
-        ensures fits { Fits (banks_of A.Bank.cells B.Bank.cells self.old) → Fits (banks_of A.Bank.cells B.Bank.cells self.new) }
+        ensures replaced { Replaced (Opened V.lawful V.word V.taken V.number image.now) (banks_of A.cells B.cells self.old) result (banks_of A.cells B.cells self.new) }
+        ensures fits { Fits (banks_of A.cells B.cells self.old) → Fits (banks_of A.cells B.cells self.new) }
     {
         self.opened(image)
     }
@@ -107,7 +107,7 @@ impl<A, B> Rig<A, B> {
     where
         A: Bank<V>,
         B: Bank<V>,
-        ensures { Replaced (Opened V.lawful V.word V.taken V.number image.now) (banks_of A.Bank.cells B.Bank.cells self.old) result (banks_of A.Bank.cells B.Bank.cells self.new) }
+        ensures { Replaced (Opened V.lawful V.word V.taken V.number image.now) (banks_of A.cells B.cells self.old) result (banks_of A.cells B.cells self.new) }
     {
         if self.turned {
             self.keeper.open::<V, B>(&mut self.second, image)
@@ -121,8 +121,8 @@ impl<A, B> Rig<A, B> {
     where
         A: Bank<V>,
         B: Bank<V>,
-        ensures answer { result ≡ write_answer (banks_of A.Bank.cells B.Bank.cells self.now).model (banks_of A.Bank.cells B.Bank.cells self.now).cells (length bytes.old) }
-        ensures after { bytes.new ≡ bytes_after V.lawful V.word V.number (banks_of A.Bank.cells B.Bank.cells self.now).model (banks_of A.Bank.cells B.Bank.cells self.now).cells bytes.old }
+        ensures answer { result ≡ write_answer (banks_of A.cells B.cells self.now).model (banks_of A.cells B.cells self.now).cells (length bytes.old) }
+        ensures after { bytes.new ≡ bytes_after V.lawful V.word V.number (banks_of A.cells B.cells self.now).model (banks_of A.cells B.cells self.now).cells bytes.old }
     {
         if self.turned {
             self.keeper.write::<V, B>(&self.second, bytes)
@@ -142,7 +142,7 @@ impl<A, B> Rig<A, B> {
     where
         A: Bank<V>,
         B: Bank<V>,
-        ensures { result ≡ cell_at (banks_of A.Bank.cells B.Bank.cells self.now).cells at }
+        ensures { result ≡ cell_at (banks_of A.cells B.cells self.now).cells at }
     {
         if self.turned {
             self.second.read(at)
@@ -156,7 +156,7 @@ impl<A, B> Rig<A, B> {
     where
         A: Bank<V>,
         B: Bank<V>,
-        ensures { result ≡ cell_at (banks_of A.Bank.cells B.Bank.cells self.now).fresh at }
+        ensures { result ≡ cell_at (banks_of A.cells B.cells self.now).fresh at }
     {
         if self.turned {
             self.first.read(at)
@@ -170,7 +170,7 @@ impl<A, B> Rig<A, B> {
     where
         A: Bank<V> + Drop,
         B: Bank<V> + Drop,
-        requires { Fits (banks_of A.Bank.cells B.Bank.cells self) }
+        requires { Fits (banks_of A.cells B.cells self) }
     {
         let Rig {
             keeper,

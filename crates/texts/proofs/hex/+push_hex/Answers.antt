@@ -1,5 +1,4 @@
 use Rattle.std.proofs.Common.{append_assoc, arith, rules}
-use Rattle.std.proofs.lemmas.Bool.Decides.{nat_tests}
 use Rattle.texts.proofs.HexSteps.{hex_more}
 use Rattle.texts.proofs.hex.+push_hex.Goals as goal
 

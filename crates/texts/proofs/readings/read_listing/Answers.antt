@@ -1,4 +1,4 @@
-use Rattle.std.proofs.Common.{◌≡◌, ◌+◌, ◌<◌, ◌≤◌, length, Some, None, Ok, vec_items, sym, ap, ◌∙◌, subst, arith, rules}
+use Rattle.std.proofs.Common.{◌+◌, ◌<◌, ◌≤◌, length, Ok, vec_items, sym, subst, arith, rules}
 use Rattle.texts.specs.Splits.{lines_of, words_of}
 use Rattle.texts.specs.Lists.{Listed, Line, after}
 use Rattle.texts.proofs.Listings.{line_count, line_at, after_none, Upto, upto_passes, upto_takes, upto_stops, upto_ends}

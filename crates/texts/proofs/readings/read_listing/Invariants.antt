@@ -1,4 +1,4 @@
-use Rattle.std.proofs.Common.{ℕ, ◌+◌, drop, vec_items}
+use Rattle.std.proofs.Common.{◌+◌, drop, vec_items}
 use Rattle.texts.specs.Splits.{lines_of}
 use Rattle.texts.specs.Lists.{Listing, after, Listed}
 use Rattle.texts.proofs.readings.read_listing.Given as goal

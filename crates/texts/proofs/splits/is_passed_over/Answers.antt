@@ -1,4 +1,4 @@
-use Rattle.std.proofs.Common.{arith, rules}
+use Rattle.std.proofs.Common.{rules}
 use Rattle.texts.proofs.WordsAt.{passed_none, passed_first}
 use Rattle.texts.proofs.splits.is_passed_over.Goals as goal
 

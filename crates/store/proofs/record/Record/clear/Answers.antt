@@ -1,4 +1,4 @@
-use Rattle.std.proofs.Common.{ltb, sym, refl, ap, ◌∙◌}
+use Rattle.std.proofs.Common.{ltb, refl, ap, ◌∙◌}
 use Rattle.std.proofs.lemmas.Result.{err_from_is_err_and}
 use Rattle.store.specs.Calls.{clear}
 use Rattle.store.specs.Record.{view}

@@ -1,9 +1,9 @@
-use Rattle.std.proofs.Common.{ltb, sym, refl, ap, ◌∙◌}
+use Rattle.std.proofs.Common.{ltb, refl, ap}
 use Rattle.std.proofs.lemmas.Result.{err_from_is_err_and}
 use Rattle.store.specs.Calls.{pair}
 use Rattle.store.specs.Record.{view}
 use Rattle.store.specs.Called.{told}
-use Rattle.store.proofs.Calling.{turned_away, let_in, accepted, once, pairs}
+use Rattle.store.proofs.Calling.{turned_away, let_in, once, pairs}
 use Rattle.store.proofs.record.Record.pair.Goals as goal
 
 pub returns-in_err-admit : goal.returns-in_err-admit

@@ -1,7 +1,6 @@
 use Rattle.std.proofs.Common.{◌≡◌, false, sym, ap, ◌∙◌}
 use Rattle.std.proofs.lemmas.Bool.{cond-false}
 use Rattle.store.specs.Record.{view, field_let_go}
-use Rattle.store.specs.Model.{hand_of}
 use Rattle.store.specs.Calls.{full}
 use Rattle.store.proofs.Taking.{room_left, placed_rightly}
 use Rattle.store.proofs.record.Record.place.Goals as goal

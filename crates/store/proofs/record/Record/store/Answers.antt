@@ -1,14 +1,14 @@
-use Rattle.std.proofs.Common.{◌≡◌, false, ltb, sym, refl, ap, ◌∙◌}
+use Rattle.std.proofs.Common.{◌≡◌, sym, refl, ap, ◌∙◌}
 use Rattle.std.proofs.lemmas.Result.{err_from_is_err_and}
 use Rattle.store.specs.Calls.{store}
 use Rattle.store.specs.Record.{view}
 use Rattle.store.specs.Called.{told}
 use Rattle.cells.specs.Banks.{after_put}
 use Rattle.store.specs.Model.{hand_of}
-use Rattle.store.specs.Fields.{past, made_sticky}
+use Rattle.store.specs.Fields.{made_sticky}
 use Rattle.store.specs.Calls.{astray}
 use Rattle.store.specs.Record.{field_let_go}
-use Rattle.store.specs.Parts.{side_in, with_in, changed}
+use Rattle.store.specs.Parts.{with_in, changed}
 use Rattle.store.proofs.Calling.{turned_away, let_in, accepted, stores, aims_badly, aims_well, aimed, sticky_held}
 use Rattle.store.proofs.record.Record.store.Goals as goal
 
