@@ -1,5 +1,5 @@
 -- From what the code of a collection's calls asked and did to what the calls mean.
-use Rattle.std.proofs.Common.{◌≡◌, ℕ, ◌+◌, ◌-◌, ◌*◌, Bool, true, false, cond, not, ◌||◌, eqb, List, [], ◌∷◌, length, Some, None, Ok, Err, Option, Result, sym, refl, ap, ◌∙◌, subst, arith}
+use Rattle.std.proofs.Common.{◌≡◌, ℕ, ◌-◌, Bool, true, false, cond, not, ◌||◌, eqb, List, [], ◌∷◌, length, Some, None, Ok, Err, Option, Result, sym, refl, ap, ◌∙◌, arith}
 use Rattle.std.proofs.lemmas.Bool.{cond-true, cond-false}
 use Rattle.std.proofs.lemmas.Bool.Decides.{nat_tests}
 use Rattle.cells.specs.declared.Cell.{Cell}
@@ -13,8 +13,8 @@ use Rattle.store.specs.Model.{Model, new_model, is_collecting}
 use Rattle.store.specs.Calls.{first, unless}
 use Rattle.store.specs.Advances.{with_mode, advance_answer, advanced_model}
 use Rattle.store.proofs.Calling.{once}
-use Rattle.collector.specs.Steps.{Tour, Stand, march}
-use Rattle.collector.specs.Collections.{Act, begin, slice, finish, abandon, Banks, Reply, ready, stepped_by, kept_marks, act_cause, act_reply, act_effect, tour_of, standing, settled, steps_of, copied_of, marks_of, march_all, whole}
+use Rattle.collector.specs.Steps.{march}
+use Rattle.collector.specs.Collections.{Act, begin, slice, finish, abandon, Banks, Reply, ready, stepped_by, kept_marks, act_cause, act_reply, act_effect, tour_of, standing, settled, steps_of, copied_of, marks_of, march_all}
 use Rattle.collector.specs.Visits.{banks_at}
 use Rattle.collector.specs.Acts.{Acted, both_sized, under_way}
 

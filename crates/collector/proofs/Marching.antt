@@ -1,5 +1,5 @@
 -- Step by step through a march.
-use Rattle.std.proofs.Common.{◌≡◌, ℕ, zero, suc, ◌+◌, ◌-◌, ◌<◌, ◌≤◌, Bool, true, false, cond, List, sym, refl, ap, ◌∙◌, subst, arith}
+use Rattle.std.proofs.Common.{◌≡◌, ℕ, zero, suc, Bool, true, false, cond, List, sym, refl, ap, ◌∙◌, subst, arith}
 use Rattle.std.proofs.lemmas.Bool.{cond-true, cond-false}
 use Rattle.std.proofs.lemmas.Bool.Decides.{nat_tests}
 use Rattle.cells.specs.declared.Cell.{Cell}
@@ -7,9 +7,8 @@ use Rattle.store.specs.declared.Mode.{Mode}
 use Rattle.store.specs.declared.Mode.TheVariants.{Settled, Working, Collecting}
 use Rattle.store.specs.Model.{Model, is_collecting}
 use Rattle.store.specs.Advances.{with_mode}
-use Rattle.collector.specs.declared.steps.Outcome.{Outcome}
 use Rattle.collector.specs.declared.steps.Outcome.TheVariants as outcome
-use Rattle.collector.specs.Steps.{Tour, Stand, finished, step_spoiled, stepped, march}
+use Rattle.collector.specs.Steps.{Tour, finished, step_spoiled, stepped, march}
 use Rattle.collector.specs.Collections.{Banks, tour_of, standing}
 use Rattle.collector.specs.Visits.{banks_at, outcome_of, stepped_banks}
 

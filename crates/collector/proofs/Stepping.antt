@@ -1,7 +1,7 @@
 -- From what the code of a step asked and did to what the step means.
-use Rattle.std.proofs.Common.{◌≡◌, ℕ, zero, suc, ◌+◌, ◌-◌, ◌*◌, ◌/◌, ◌<◌, ◌≤◌, Bool, true, false, cond, not, ◌&&◌, ◌||◌, eqb, ltb, ◌≢◌, List, [], ◌∷◌, length, get_or, set, Some, None, Ok, Err, Result, sym, refl, ap, ◌∙◌, subst, add-zero, add-one, arith, get_or-set_other, get_or-set_same, lt-ltb, eqb-true}
+use Rattle.std.proofs.Common.{◌≡◌, ℕ, zero, suc, ◌+◌, ◌*◌, ◌<◌, ◌≤◌, Bool, true, false, cond, not, ◌&&◌, ◌||◌, eqb, ltb, ◌≢◌, List, [], ◌∷◌, get_or, set, Some, None, Ok, Err, Result, sym, refl, ap, ◌∙◌, subst, add-zero, add-one, arith, get_or-set_other, lt-ltb, eqb-true}
 use borrow.Author.Tests.{eqb-false}
-use Rattle.std.proofs.lemmas.Bool.{cond-true, cond-false, ltb-true, ltb-false}
+use Rattle.std.proofs.lemmas.Bool.{cond-true, cond-false, ltb-false}
 use Rattle.std.proofs.lemmas.Bool.Decides.{nat_tests}
 use Rattle.cells.specs.declared.Tag.{Tag}
 use Rattle.cells.specs.declared.Tag.TheVariants.{Unique, Sticky}
@@ -21,7 +21,6 @@ use Rattle.graph.specs.Places.{place_of, cell_of, side_of, field_of, holds, is_n
 use Rattle.graph.proofs.Reading.{cell_of_place, side_of_place}
 use Rattle.store.specs.declared.Mode.{Mode}
 use Rattle.store.specs.declared.Mode.TheVariants.{Collecting}
-use Rattle.store.specs.declared.turns.Happening.{Happening}
 use Rattle.store.specs.declared.turns.Happening.TheVariants.{Stepped}
 use Rattle.store.specs.Model.{Model}
 use Rattle.store.specs.Bounds.{counts_within}

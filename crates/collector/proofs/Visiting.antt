@@ -1,5 +1,5 @@
 -- Places and the fields that are put into them.
-use Rattle.std.proofs.Common.{◌≡◌, ℕ, Bool, true, List, set, sym, refl, ap, ◌∙◌, arith}
+use Rattle.std.proofs.Common.{◌≡◌, ℕ, Bool, true, List, set, refl, arith}
 use Rattle.cells.specs.declared.Field.{Field}
 use Rattle.cells.specs.declared.Side.{Side}
 use Rattle.cells.specs.declared.Side.TheVariants.{Left, Right}

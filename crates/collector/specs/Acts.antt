@@ -1,5 +1,5 @@
 -- What the code of a collection's calls answers and leaves. Assumes nothing.
-use Rattle.std.specs.Prelude.{◌≡◌, ℕ, Bool, not, ◌||◌, List, [], ◌∷◌, length, Ok, Err, Result, ◌==◌}
+use Rattle.std.specs.Prelude.{◌≡◌, ℕ, not, ◌||◌, List, [], ◌∷◌, length, Ok, Err, Result, ◌==◌}
 use Rattle.cells.specs.declared.Cell.{Cell}
 use Rattle.cells.specs.declared.causes.Cause.{Cause}
 use Rattle.cells.specs.declared.causes.Cause.TheVariants.{OtherSize, NotCollecting}

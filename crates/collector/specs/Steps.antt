@@ -1,7 +1,7 @@
 -- One step of a collection. Assumes nothing.
 -- Steps visit places: the sixteen hands in the order of their numbers, then left and right of new cells 0, 1, 2 and on. The number
 -- of a step is that of its place.
-use Rattle.std.specs.Prelude.{ℕ, zero, suc, ◌+◌, ◌-◌, ◌*◌, Bool, true, false, cond, not, ◌&&◌, ◌||◌, List, set, nat_lt, slice_index_or, slice_set}
+use Rattle.std.specs.Prelude.{ℕ, zero, suc, ◌+◌, ◌*◌, Bool, true, false, cond, not, ◌&&◌, ◌||◌, List, nat_lt, slice_index_or, slice_set}
 use Rattle.cells.specs.declared.Tag.{Tag}
 use Rattle.cells.specs.declared.Tag.TheVariants.{Unique, Sticky}
 use Rattle.cells.specs.declared.Reference.{Reference}

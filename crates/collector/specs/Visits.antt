@@ -1,15 +1,14 @@
 -- The parts that the code of a step is made of, and what each gives. What a step means is said without them. Assumes nothing.
-use Rattle.std.specs.Prelude.{◌≡◌, ℕ, ◌+◌, ◌*◌, ◌<◌, Bool, true, false, cond, not, List, set, Ok, Err, Option, Result, ◌==◌, nat_lt, slice_index_or, slice_set}
-use Rattle.cells.specs.declared.Reference.{Reference}
+use Rattle.std.specs.Prelude.{◌≡◌, ℕ, ◌+◌, ◌*◌, ◌<◌, Bool, true, cond, not, List, Ok, Err, Result, ◌==◌, nat_lt, slice_index_or, slice_set}
 use Rattle.cells.specs.declared.Field.{Field}
 use Rattle.cells.specs.declared.Field.TheVariants as field
 use Rattle.cells.specs.declared.Source.{Source}
 use Rattle.cells.specs.declared.Source.TheVariants.{Nowhere, Hand, Cell as CellSide}
 use Rattle.cells.specs.declared.Cell.{Cell}
-use Rattle.cells.specs.declared.Cell.TheVariants.{Blank, Pair, Leaf, Moved}
+use Rattle.cells.specs.declared.Cell.TheVariants.{Blank}
 use Rattle.cells.specs.declared.causes.Cause.{Cause}
 use Rattle.cells.specs.declared.causes.Cause.TheVariants.{Spoiled}
-use Rattle.graph.specs.Places.{cell_of, field_of, is_node}
+use Rattle.graph.specs.Places.{field_of, is_node}
 use Rattle.store.specs.declared.Mode.TheVariants.{Collecting}
 use Rattle.store.specs.Model.{Model}
 use Rattle.store.specs.Fields.{with_side}

@@ -1,14 +1,14 @@
 -- Longer runs, with answers from an independent reference. Assumes nothing.
 -- Leaves are numbers that stand for themselves: one that does not fit 64 bits is refused.
-use Rattle.std.specs.Prelude.{ℕ, ◌^◌, Bool, true, false, cond, List, [], ◌∷◌, ◌++◌, map, replicate, Some, None, Ok, Err, Option, Result, nat_lt}
+use Rattle.std.specs.Prelude.{ℕ, ◌^◌, Bool, true, cond, List, [], ◌∷◌, ◌++◌, map, replicate, Some, None, Ok, Err, Option, Result, nat_lt}
 use Rattle.cells.specs.declared.Side.TheVariants.{Left, Right}
 use Rattle.cells.specs.declared.causes.Cause.{Cause}
 use Rattle.cells.specs.declared.causes.Cause.TheVariants.{Collecting, LeafCell, NilHand, NoRoom, NoSuchHand, NotCollecting, OtherSize, ValueRefused}
 use Rattle.store.specs.declared.Sight.{Sight}
-use Rattle.store.specs.declared.Sight.TheVariants.{Nothing, APair, ALeaf}
-use Rattle.store.specs.Calls.{Call, pair, leaf, copy, load, store, swap, clear, look, sight}
+use Rattle.store.specs.declared.Sight.TheVariants.{Nothing, APair}
+use Rattle.store.specs.Calls.{pair, leaf, copy, load, store, swap, clear, look, sight}
 use Rattle.collector.specs.Collections.{stepped_by}
-use Rattle.runs.specs.Worlds.{Event, calls, begins, slices, finishes, abandons, Said, answered, replied}
+use Rattle.runs.specs.Worlds.{calls, begins, slices, finishes, abandons, Said, answered, replied}
 use Rattle.run_examples.specs.Rows.{Row, blanks, computed, ok, begun, keeps}
 
 abbrev pub small : ℕ → Bool

@@ -9,7 +9,7 @@ use Rattle.cells.specs.declared.causes.Cause.TheVariants.{NoRoom}
 use Rattle.kinds.specs.declared.points.Point.{Point}
 use Rattle.kinds.specs.PointKind.{lawful_point, tidied_point, word_point}
 use Rattle.store.specs.declared.Sight.TheVariants.{ALeaf}
-use Rattle.store.specs.Calls.{Call, pair, leaf, copy, load, store, swap, clear, look, done, sight}
+use Rattle.store.specs.Calls.{pair, leaf, copy, load, store, swap, clear, look, done, sight}
 use Rattle.collector.specs.Collections.{ready, stepped_by, kept_marks}
 use Rattle.runs.specs.Worlds.{Event, calls, begins, slices, finishes, World, Said, answered, replied, new_world, answer, after, run}
 use Rattle.runs.specs.Law.{kept}

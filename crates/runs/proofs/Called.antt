@@ -1,9 +1,9 @@
 -- Every accepted call leaves a sound store, none is refused as spoiled, and Look answers as the plain graph does. Assumes nothing.
-use Rattle.std.proofs.Common.{◌≡◌, ℕ, zero, suc, ◌+◌, ◌-◌, ◌<◌, ◌≤◌, Bool, true, false, cond, not, ◌&&◌, ◌||◌, eqb, ltb, ◌⊎◌, List, [], ◌∷◌, ◌++◌, length, get_or, take, set, replicate, is_some, Some, None, Ok, Err, Option, Result, unwrap_or, sym, refl, ap, ◌∙◌, subst, inl, inr, arith, length-set, length-take, get_or-set_other, get_or-set_same}
+use Rattle.std.proofs.Common.{◌≡◌, ℕ, zero, suc, ◌+◌, ◌<◌, Bool, true, false, cond, not, ◌||◌, eqb, ltb, ◌⊎◌, List, [], ◌∷◌, ◌++◌, length, get_or, take, set, replicate, is_some, Some, None, Option, unwrap_or, sym, refl, ap, ◌∙◌, subst, inl, inr, arith, length-take, get_or-set_other, get_or-set_same}
 use Rattle.std.proofs.lemmas.Bool.Decides.{nat_tests}
-use Rattle.std.proofs.lemmas.Bool.{cases_lt, cases_eq, cases_Bool}
+use Rattle.std.proofs.lemmas.Bool.{cases_lt, cases_Bool}
 use Rattle.std.proofs.lemmas.List.{get_or_past, get_or-replicate}
-use Rattle.runs.specs.Sound.{InUse, Sound, Tagged, held_below, node_sent}
+use Rattle.runs.specs.Sound.{InUse, Sound, held_below, node_sent}
 use Rattle.cells.specs.declared.Tag.{Tag}
 use Rattle.cells.specs.declared.Tag.TheVariants.{Unique, Sticky}
 use Rattle.cells.specs.declared.Reference.{Reference}
@@ -16,17 +16,16 @@ use Rattle.cells.specs.declared.Cell.TheVariants.{Blank, Pair, Leaf, Moved}
 use Rattle.cells.specs.declared.causes.Cause.{Cause}
 use Rattle.cells.specs.declared.causes.Cause.TheVariants.{OtherSize, NoSuchHand, Collecting, ValueRefused, NilHand, LeafCell, Spoiled, NoRoom}
 use Rattle.cells.specs.Leaves.{Laws}
-use Rattle.graph.specs.Graphs.{Link, nil, to, Node, blank, pair, leaf, Graph, hand, node, side, sent, link_of, node_of}
+use Rattle.graph.specs.Graphs.{Link, nil, to, Node, Graph, hand, node, side, sent, link_of, node_of}
 use Rattle.graph.specs.Places.{place_of, cell_of, side_of, field_of, is_node}
 use Rattle.graph.proofs.Reading.{holds_hand, holds_side}
-use Rattle.store.specs.declared.Sight.{Sight}
-use Rattle.store.specs.declared.Sight.TheVariants.{Nothing, APair, ALeaf}
+use Rattle.store.specs.declared.Sight.TheVariants.{APair}
 use Rattle.store.specs.Model.{Model, new_model, hand_of, is_collecting}
 use Rattle.store.specs.Fields.{unique, is_unique, is_nil, unique_field, past, address_of, made_sticky, with_side, let_go, let_go_sides, top, below_top, Taken, taking}
 use Rattle.store.specs.Calls.{Call, State, first, no_such_hand, value_refused, sided, hand_passes, leads_to_leaf, astray, field_at, spoiled, full, no_room, cause_of, effect, placed, with_field, cell_sight, sight_of}
 use Rattle.store.specs.Calls as call
 use Rattle.runs.specs.Kept.{SoundAt, CallsKeepSound}
-use Rattle.runs.specs.Plain.{empty_graph, set_hand, add_node, with_link, link_on, nodes_with, plain_call, node_sight, plain_sight, is_nil_link}
+use Rattle.runs.specs.Plain.{set_hand, add_node, with_link, link_on, nodes_with, plain_call, node_sight, plain_sight, is_nil_link}
 use Rattle.runs.proofs.Lists.{length_push}
 use Rattle.runs.proofs.Tagging.{no_reference}
 use Rattle.runs.proofs.Moves.{held_hand, held_side, link_sticky, sound_sticky_hand, sound_sticky_side, sound_write_hand, sound_write_side, sound_swap, side_here}

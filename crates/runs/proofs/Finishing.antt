@@ -1,35 +1,33 @@
 -- What holds straight after a collection that has visited all its places. Assumes nothing.
-use Rattle.std.proofs.Common.{◌≡◌, ℕ, suc, ◌+◌, ◌*◌, ◌<◌, ◌≤◌, Bool, true, false, cond, not, ◌&&◌, eqb, ltb, ◌⊎◌, ◌↔◌, List, [], ◌∷◌, length, get_or, take, Some, None, Ok, Err, Option, Result, sym, refl, ap, ◌∙◌, subst, inl, inr, arith}
+use Rattle.std.proofs.Common.{◌≡◌, ℕ, ◌+◌, ◌*◌, ◌<◌, ◌≤◌, Bool, true, false, cond, not, eqb, ltb, ◌↔◌, List, [], take, Some, None, Ok, Err, Option, Result, sym, refl, ap, ◌∙◌, subst, inl, inr, arith}
 use Rattle.std.proofs.lemmas.Bool.Decides.{nat_tests}
-use Rattle.std.proofs.lemmas.Bool.{cases_lt, cases_eq, cases_Bool}
+use Rattle.std.proofs.lemmas.Bool.{cases_eq, cases_Bool}
 use Rattle.cells.specs.declared.Tag.{Tag}
 use Rattle.cells.specs.declared.Tag.TheVariants.{Unique, Sticky}
-use Rattle.cells.specs.declared.Reference.{Reference}
-use Rattle.cells.specs.declared.Field.{Field}
-use Rattle.cells.specs.declared.Field.TheVariants.{Nil, To}
+use Rattle.cells.specs.declared.Field.TheVariants.{To}
 use Rattle.cells.specs.declared.Cell.{Cell}
 use Rattle.cells.specs.declared.causes.Cause.{Cause}
 use Rattle.cells.specs.declared.causes.Cause.TheVariants.{NoRoom}
 use Rattle.cells.specs.Leaves.{Laws}
-use Rattle.graph.specs.Graphs.{Link, to, Graph, Reachable, Alike, Counts, link_of, graph_of}
-use Rattle.graph.specs.Places.{holds, refers_to, Another, Live, Shared, link_at, Canonical}
-use Rattle.graph.proofs.Reading.{link_at_lem, link_reference, refers_link}
+use Rattle.graph.specs.Graphs.{to, Graph, Reachable, Alike, Counts, link_of, graph_of}
+use Rattle.graph.specs.Places.{holds, refers_to, Live, Shared, link_at, Canonical}
+use Rattle.graph.proofs.Reading.{link_at_lem, link_reference}
 use Rattle.graph.proofs.Ordered.{met_and_reached, canonical_live}
 use Rattle.graph.proofs.Counting.{how_many, counts_passing, counts_like}
 use Rattle.graph.proofs.Partners.{alike_keeps_counts}
-use Rattle.store.specs.Model.{Model, hand_of}
-use Rattle.store.specs.Fields.{is_unique, unique_field}
+use Rattle.store.specs.Model.{hand_of}
+use Rattle.store.specs.Fields.{unique_field}
 use Rattle.store.specs.Calls.{Call, cause_of, answer_of, unless, full}
 use Rattle.store.specs.Calls as call
 use Rattle.collector.specs.Steps.{Tour}
-use Rattle.collector.specs.Collections.{Banks, settled, tour_of, march_all}
+use Rattle.collector.specs.Collections.{settled, tour_of, march_all}
 use Rattle.runs.specs.Sound.{Sound, held_below}
 use Rattle.runs.specs.Worlds.{World, Said, answered, saying, state_of, answer, calls}
 use Rattle.runs.specs.Law.{Finished, HadUnique}
-use Rattle.runs.proofs.Tagging.{two_tags, refers_to_lem, refers_from}
+use Rattle.runs.proofs.Tagging.{refers_to_lem}
 use Rattle.runs.proofs.Tallied.{tally_both}
 use Rattle.runs.proofs.Settling.{exact_unique, sound_alike}
-use Rattle.runs.proofs.TourVisits.{Log, ref, stood, was, was_stood, Visits}
+use Rattle.runs.proofs.TourVisits.{Log, ref, stood, was, was_stood}
 use Rattle.runs.proofs.TourSteps.{Begun, Touring, sticky_tag}
 use Rattle.runs.proofs.TourEnd.{kept_length, read, refers_now, exact_now, canonical_now}
 

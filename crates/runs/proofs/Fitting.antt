@@ -1,5 +1,5 @@
 -- The banks in use keep the store's size, whatever calls are made.
-use Rattle.std.proofs.Common.{◌≡◌, ℕ, zero, suc, ◌+◌, ◌-◌, ◌*◌, Bool, true, false, cond, eqb, ltb, List, [], ◌∷◌, length, get_or, set, Some, None, Option, sym, refl, ap, ◌∙◌, subst, arith, length-set}
+use Rattle.std.proofs.Common.{◌≡◌, ℕ, zero, suc, ◌+◌, ◌-◌, ◌*◌, Bool, true, false, cond, ltb, List, length, get_or, Some, None, Option, sym, refl, ◌∙◌, length-set}
 use Rattle.cells.specs.declared.Tag.{Tag}
 use Rattle.cells.specs.declared.Tag.TheVariants.{Unique, Sticky}
 use Rattle.cells.specs.declared.Reference.{Reference}
@@ -11,14 +11,14 @@ use Rattle.cells.specs.declared.Cell.TheVariants.{Blank, Pair, Leaf, Moved}
 use Rattle.cells.specs.declared.causes.Cause.{Cause}
 use Rattle.graph.specs.Places.{holds}
 use Rattle.store.specs.Fields.{is_unique}
-use Rattle.store.specs.Model.{Model, is_collecting}
+use Rattle.store.specs.Model.{is_collecting}
 use Rattle.store.specs.Calls.{Call, State, effect, cause_of, unless, first}
 use Rattle.store.specs.Calls as call
 use Rattle.collector.specs.Steps.{Tour, Stand, cells_with, marked_old, copied_over, forwarded, met_cell, met_field, stepped, finished, step_spoiled, march}
-use Rattle.collector.specs.Collections.{Act, begin, slice, finish, abandon, Banks, tour_of, act_effect, act_cause, march_all, standing, settled}
+use Rattle.collector.specs.Collections.{begin, slice, finish, abandon, Banks, tour_of, act_effect, act_cause, march_all, standing, settled}
 use Rattle.runs.specs.declared.scripts.Call.TheVariants as script
 use Rattle.runs.specs.declared.scripts.Call.{Call as ScriptCall}
-use Rattle.runs.specs.Worlds.{Event, calls, begins, slices, finishes, abandons, World, state_of, next}
+use Rattle.runs.specs.Worlds.{World, state_of, next}
 use Rattle.runs.specs.Scripts.{call_of, event_of}
 use Rattle.runs.specs.Rigs.{Fits}
 use Rattle.runs.proofs.Called.{admitted}

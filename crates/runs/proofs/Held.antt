@@ -1,16 +1,15 @@
 -- What places hold after a write to a hand or to a side of a cell. Assumes nothing.
-use Rattle.std.proofs.Common.{◌≡◌, ℕ, ◌+◌, ◌*◌, ◌%◌, ◌<◌, ◌≤◌, Bool, true, false, cond, not, eqb, ltb, ◌≢◌, ◌⊎◌, List, length, get_or, take, set, sym, refl, ap, ◌∙◌, subst, inl, inr, arith, length-set, length-take, get_or-set_other, get_or-take, get_or-set_same}
-use lib.Seq.{take-set-lt}
+use Rattle.std.proofs.Common.{◌≡◌, ℕ, ◌%◌, ◌<◌, ◌≤◌, cond, eqb, List, length, get_or, set, sym, ap, ◌∙◌, inl, inr, arith, get_or-set_other, get_or-set_same}
 use Rattle.std.proofs.lemmas.Bool.Decides.{nat_tests}
 use Rattle.std.proofs.lemmas.Bool.{cases_lt, cases_eq}
 use Rattle.cells.specs.declared.Field.{Field}
-use Rattle.cells.specs.declared.Field.TheVariants.{Nil, To}
+use Rattle.cells.specs.declared.Field.TheVariants.{Nil}
 use Rattle.cells.specs.declared.Side.{Side}
 use Rattle.cells.specs.declared.Side.TheVariants.{Left, Right}
 use Rattle.cells.specs.declared.Cell.{Cell}
-use Rattle.cells.specs.declared.Cell.TheVariants.{Blank, Pair, Leaf, Moved}
+use Rattle.cells.specs.declared.Cell.TheVariants.{Blank, Pair}
 use Rattle.graph.specs.Places.{place_of, cell_of, side_of, field_of, holds}
-use Rattle.graph.proofs.Reading.{holds_hand, holds_side, holds_place, cell_of_place, side_of_place, place_from_16}
+use Rattle.graph.proofs.Reading.{holds_hand, holds_side, cell_of_place, place_from_16}
 use Rattle.store.specs.Fields.{with_side}
 
 -- what a place holds after a field is written at p

@@ -1,19 +1,19 @@
 -- A store's mode and its ticket go together.
-use Rattle.std.proofs.Common.{◌≡◌, ℕ, Bool, true, false, cond, not, ◌||◌, eqb, List, [], ◌∷◌, length, Some, None, Ok, Err, Option, Result, sym, refl, ap, ◌∙◌, subst, arith, eq-eqb}
+use Rattle.std.proofs.Common.{◌≡◌, ℕ, Bool, true, false, cond, not, ◌||◌, eqb, List, [], ◌∷◌, length, Some, None, Ok, Err, Option, Result, sym, refl, ap, ◌∙◌, arith, eq-eqb}
 use Rattle.std.proofs.lemmas.Bool.Decides.{nat_tests}
 use Rattle.cells.specs.declared.Cell.{Cell}
 use Rattle.cells.specs.declared.causes.Cause.{Cause}
 use Rattle.cells.specs.declared.causes.Cause.TheVariants.{OtherSize, NotCollecting}
 use Rattle.store.specs.Model.{Model, is_collecting}
-use Rattle.store.specs.Calls.{Call, State, cause_of, effect, call_state, unless, first}
+use Rattle.store.specs.Calls.{Call, cause_of, effect, call_state, unless, first}
 use Rattle.store.specs.Called.{state_at}
-use Rattle.collector.specs.Collections.{Act, begin, slice, finish, abandon, Banks, Reply, ready, act_cause, act_reply, act_effect, act_answer, act_banks}
+use Rattle.collector.specs.Collections.{Act, begin, slice, finish, abandon, Banks, Reply, ready, act_cause, act_reply, act_effect}
 use Rattle.collector.specs.Visits.{banks_at}
 use Rattle.collector.specs.Acts.{Acted}
 use Rattle.runs.specs.declared.scripts.Answer.{Answer}
 use Rattle.runs.specs.Worlds.{replied, saying}
 use Rattle.runs.specs.Scripts.{said_by, Acts, idle_cause}
-use Rattle.runs.proofs.Called.{Admitted, admitted}
+use Rattle.runs.proofs.Called.{admitted}
 use Rattle.runs.proofs.Worldly.{begin_admitted, effect_mode}
 
 -- a call from Pair to Look neither begins nor ends a collection

@@ -1,5 +1,5 @@
 -- A new cell in a sound store, at the mark or at an address that was listed. Assumes nothing.
-use Rattle.std.proofs.Common.{◌≡◌, ℕ, zero, suc, ◌+◌, ◌-◌, ◌<◌, ◌≤◌, Bool, true, false, cond, eqb, ltb, ◌⊎◌, List, [], ◌∷◌, ◌++◌, length, get_or, take, set, sym, refl, ap, ◌∙◌, subst, inl, inr, arith, length-set, length-take, get_or-set_other, get_or-take, get_or-set_same}
+use Rattle.std.proofs.Common.{◌≡◌, ℕ, ◌+◌, ◌-◌, ◌<◌, ◌≤◌, Bool, true, false, cond, eqb, ltb, List, [], ◌∷◌, ◌++◌, length, get_or, take, set, sym, refl, ap, ◌∙◌, subst, inl, inr, arith, length-set, length-take, get_or-set_other, get_or-take, get_or-set_same}
 use lib.Seq.{take-set-lt}
 use Rattle.std.proofs.lemmas.Bool.Decides.{nat_tests}
 use Rattle.std.proofs.lemmas.Bool.{cases_lt, cases_eq}
@@ -12,13 +12,13 @@ use Rattle.cells.specs.declared.Side.{Side}
 use Rattle.cells.specs.declared.Side.TheVariants.{Left, Right}
 use Rattle.cells.specs.declared.Cell.{Cell}
 use Rattle.cells.specs.declared.Cell.TheVariants.{Blank, Pair, Leaf, Moved}
-use Rattle.graph.specs.Graphs.{Link, nil, to, Node, blank, pair, leaf, Graph, hand, node, sent, link_of, node_of}
-use Rattle.graph.specs.Places.{place_of, cell_of, side_of, field_of, holds, is_node}
-use Rattle.graph.proofs.Reading.{holds_hand, holds_side, cell_of_place, place_from_16}
+use Rattle.graph.specs.Graphs.{nil, to, blank, pair, Graph, sent, link_of, node_of}
+use Rattle.graph.specs.Places.{place_of, cell_of, side_of, field_of, is_node}
+use Rattle.graph.proofs.Reading.{holds_hand, holds_side}
 use Rattle.store.specs.Fields.{unique, let_go, let_go_sides, top, below_top}
 use Rattle.runs.specs.Plain.{add_node}
 use Rattle.runs.proofs.Lists.{Lets, get_d_push, get_d_end, length_push}
-use Rattle.runs.proofs.Held.{upd, upd_here, upd_there, hand_set, place_side}
+use Rattle.runs.proofs.Held.{upd, upd_there}
 use Rattle.runs.proofs.Tagging.{tagged_like, tagged_write, tagged_fresh, tagged_shorter, top_listed, top_once, listed_after, listed_still, no_reference}
 use Rattle.runs.proofs.Moves.{held_hand, held_side, held_hand_set}
 

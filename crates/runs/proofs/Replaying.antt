@@ -1,12 +1,12 @@
 -- Call by call through a script.
-use Rattle.std.proofs.Common.{◌≡◌, ℕ, zero, suc, ◌+◌, ◌<◌, ◌≤◌, List, [], ◌∷◌, ◌++◌, map, length, get_or, take, Option, Result, sym, refl, ap, ◌∙◌, subst, append_assoc, append-nil}
+use Rattle.std.proofs.Common.{◌≡◌, ℕ, ◌+◌, ◌<◌, ◌≤◌, List, [], ◌∷◌, ◌++◌, map, length, get_or, take, Option, Result, sym, refl, ap, ◌∙◌, append_assoc, append-nil}
 use mathlib.Core.List.{map-append}
 use Rattle.std.proofs.lemmas.List.{take_more, take_all}
 use Rattle.cells.specs.declared.causes.Cause.{Cause}
 use Rattle.collector.specs.Collections.{Banks}
 use Rattle.runs.specs.declared.scripts.Call.{Call}
 use Rattle.runs.specs.declared.scripts.Answer.{Answer}
-use Rattle.runs.specs.Worlds.{Event, World, answer, next, after, run}
+use Rattle.runs.specs.Worlds.{World, answer, next, after, run}
 use Rattle.runs.specs.Scripts.{said_by, event_of, Made, events_of, answers_of}
 
 module _ {V : Type 0} (tidied : V → Option V) where

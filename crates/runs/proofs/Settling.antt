@@ -1,23 +1,22 @@
 -- A sound store with nothing listed: its graph is alike to the plain graph. Assumes nothing.
-use Rattle.std.proofs.Common.{◌≡◌, ℕ, ◌+◌, ◌*◌, ◌<◌, ◌≤◌, Bool, true, false, eqb, ◌⊎◌, ◌↔◌, List, [], length, get_or, take, Some, None, Option, sym, refl, ap, ◌∙◌, subst, inl, inr, arith, length-take, get_or-take}
+use Rattle.std.proofs.Common.{◌≡◌, ℕ, ◌<◌, Bool, true, ◌↔◌, List, [], get_or, take, Option, sym, refl, ap, ◌∙◌, subst, inl, inr, arith, length-take, get_or-take}
 use Rattle.std.proofs.lemmas.Bool.Decides.{nat_tests}
-use Rattle.std.proofs.lemmas.Bool.{cases_lt, cases_eq}
+use Rattle.std.proofs.lemmas.Bool.{cases_lt}
 use Rattle.std.proofs.lemmas.List.{get_or_past}
 use Rattle.cells.specs.declared.Tag.{Tag}
 use Rattle.cells.specs.declared.Tag.TheVariants.{Unique, Sticky}
 use Rattle.cells.specs.declared.Reference.{Reference}
 use Rattle.cells.specs.declared.Field.{Field}
 use Rattle.cells.specs.declared.Field.TheVariants.{Nil, To}
-use Rattle.cells.specs.declared.Side.{Side}
 use Rattle.cells.specs.declared.Cell.{Cell}
 use Rattle.cells.specs.declared.Cell.TheVariants.{Blank, Pair, Leaf, Moved}
 use Rattle.cells.specs.Leaves.{Laws}
-use Rattle.graph.specs.Graphs.{Link, nil, to, Node, blank, pair, leaf, Graph, hand, node, side, Reachable, from_hand, from_side, sent, Matches, Alike, Accepted, link_of, node_of, graph_of}
-use Rattle.graph.specs.Places.{place_of, field_of, holds, Lawful, Exact, Another}
-use Rattle.graph.proofs.Reading.{link_reference, hand_of_lem, node_of_lem, link_at_lem, link_at_hand, link_at_place, holds_hand, holds_place}
+use Rattle.graph.specs.Graphs.{nil, to, leaf, Graph, hand, node, Reachable, from_hand, from_side, sent, Matches, Alike, Accepted, link_of, node_of, graph_of}
+use Rattle.graph.specs.Places.{place_of, Lawful, Exact, Another}
+use Rattle.graph.proofs.Reading.{link_reference, hand_of_lem, node_of_lem, link_at_lem, link_at_place, holds_hand}
 use Rattle.graph.proofs.Matching.{partnered}
 use Rattle.graph.proofs.Partners.{alike_by_map}
-use Rattle.runs.specs.Sound.{Sound, held_below, InUse, Listed, node_sent}
+use Rattle.runs.specs.Sound.{Sound, held_below, InUse, node_sent}
 use Rattle.runs.proofs.Tagging.{two_tags}
 
 -- an exact tag is UNIQUE exactly when no other place has the address

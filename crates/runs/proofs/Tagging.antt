@@ -1,5 +1,5 @@
 -- References and the free list, as each change of a place leaves them. Assumes nothing.
-use Rattle.std.proofs.Common.{◌≡◌, ℕ, ◌+◌, ◌-◌, ◌<◌, ◌≤◌, Bool, true, false, cond, not, eqb, ltb, ◌⊎◌, List, [], ◌∷◌, ◌++◌, length, get_or, take, sym, refl, ap, ◌∙◌, subst, inl, inr, arith, length-take, get_or-take}
+use Rattle.std.proofs.Common.{◌≡◌, ℕ, ◌-◌, ◌<◌, ◌≤◌, true, ◌⊎◌, List, [], ◌∷◌, ◌++◌, length, get_or, take, sym, refl, ap, ◌∙◌, subst, inl, inr, arith, length-take, get_or-take}
 use Rattle.std.proofs.lemmas.Bool.Decides.{nat_tests}
 use Rattle.std.proofs.lemmas.Bool.{cases_lt, cases_eq}
 use Rattle.cells.specs.declared.Tag.{Tag}
@@ -8,7 +8,7 @@ use Rattle.cells.specs.declared.Reference.{Reference}
 use Rattle.cells.specs.declared.Field.{Field}
 use Rattle.cells.specs.declared.Field.TheVariants.{Nil, To}
 use Rattle.graph.specs.Places.{refers_to, Another, Honest}
-use Rattle.store.specs.Fields.{unique, sticky, unique_field, made_sticky, let_go, top, below_top}
+use Rattle.store.specs.Fields.{unique, made_sticky, let_go, top, below_top}
 use Rattle.runs.specs.Sound.{Listed, Tagged}
 use Rattle.runs.proofs.Lists.{Lets, letgo_cases, listed_push, listed_more, get_d_push, get_d_end, length_push}
 use Rattle.runs.proofs.Held.{upd, upd_here, upd_there}

@@ -1,21 +1,21 @@
 -- The law over runs, from what holds of each step and of each world. Assumes nothing.
-use Rattle.std.proofs.Common.{◌≡◌, ℕ, ◌+◌, ◌*◌, ◌<◌, ◌≤◌, Bool, true, false, ◌↔◌, List, [], length, take, Ok, Option, sym, refl, ap, ◌∙◌, subst}
+use Rattle.std.proofs.Common.{◌≡◌, ℕ, ◌+◌, ◌*◌, Bool, false, ◌↔◌, List, [], length, take, Ok, Option, sym, refl, subst}
 use Rattle.cells.specs.declared.Field.{Field}
 use Rattle.cells.specs.declared.Cell.{Cell}
 use Rattle.cells.specs.Leaves.{Laws}
 use Rattle.graph.specs.Graphs.{Graph, Alike, graph_of}
-use Rattle.graph.specs.Places.{Canonical, Lawful}
+use Rattle.graph.specs.Places.{Lawful}
 use Rattle.graph.proofs.Same.{canonical_stands_for_alike}
-use Rattle.collector.specs.Steps.{Tour, Stand, march}
-use Rattle.collector.specs.Collections.{Banks, kept_marks, tour_of, settled, march_all}
+use Rattle.collector.specs.Steps.{Tour, march}
+use Rattle.collector.specs.Collections.{kept_marks, tour_of, settled, march_all}
 use Rattle.runs.specs.Sound.{Sound}
-use Rattle.runs.specs.Worlds.{Event, finishes, World, world_beside, Said, replied, answer, after, run}
-use Rattle.runs.specs.Law.{Finished, FinishedRightly, JustFinished, LawOverRuns, LawBesideAnySpare, kept, ran_beside}
+use Rattle.runs.specs.Worlds.{Event, finishes, World, world_beside, replied, answer, after, run}
+use Rattle.runs.specs.Law.{Finished, JustFinished, LawOverRuns, LawBesideAnySpare, kept}
 use Rattle.runs.proofs.Worldly.{InTour, Good, Ended, good_new, good_run, finish_ended, throughout_runs}
-use Rattle.runs.proofs.Settling.{alike_self, sound_alike, kept_lawful, plain_accepted}
+use Rattle.runs.proofs.Settling.{alike_self, kept_lawful, plain_accepted}
 use Rattle.runs.proofs.TourVisits.{Log, start_log}
-use Rattle.runs.proofs.TourSteps.{Begun, begun_sound, Touring, touring_start, Marched, march_keeps, march_all_keeps, march_all_ends}
-use Rattle.runs.proofs.TourEnd.{sound_now, canonical_now, alike_begun, alike_begun_forth}
+use Rattle.runs.proofs.TourSteps.{Begun, begun_sound, Touring, touring_start, march_keeps, march_all_keeps, march_all_ends}
+use Rattle.runs.proofs.TourEnd.{sound_now, alike_begun, alike_begun_forth}
 use Rattle.runs.proofs.Finishing.{finished_rightly}
 
 -- where a collection stands, with a log of what was met

@@ -1,6 +1,5 @@
 -- A collection whose places are all visited: tags are exact, and what is kept is canonical. Assumes nothing.
-use Rattle.std.proofs.Common.{◌≡◌, ℕ, zero, suc, ◌+◌, ◌-◌, ◌*◌, ◌/◌, ◌%◌, ◌<◌, ◌≤◌, Bool, true, false, cond, not, ◌&&◌, ◌||◌, eqb, ltb, ◌⊎◌, ◌↔◌, List, [], length, get_or, take, set, sym, refl, ap, ◌∙◌, subst, inl, inr, arith, length-take, get_or-take}
-use Rattle.std.proofs.lemmas.Bool.Decides.{nat_tests}
+use Rattle.std.proofs.Common.{◌≡◌, ℕ, ◌+◌, ◌*◌, ◌<◌, Bool, true, List, [], length, get_or, take, sym, refl, ap, ◌∙◌, subst, inl, inr, arith, length-take, get_or-take}
 use Rattle.std.proofs.lemmas.Bool.{cases_lt, cases_eq}
 use Rattle.std.proofs.lemmas.List.{get_or_past}
 use Rattle.cells.specs.declared.Tag.{Tag}
@@ -12,19 +11,19 @@ use Rattle.cells.specs.declared.Side.{Side}
 use Rattle.cells.specs.declared.Side.TheVariants.{Left, Right}
 use Rattle.cells.specs.declared.Cell.{Cell}
 use Rattle.cells.specs.declared.Cell.TheVariants.{Blank, Pair, Leaf, Moved}
-use Rattle.graph.specs.Graphs.{Link, nil, to, Node, blank, pair, leaf, Graph, hand, node, side, sent, Reachable, Matches, Alike, Counts, link_of, node_of, graph_of}
-use Rattle.graph.specs.Places.{place_of, cell_of, side_of, field_of, holds, link_at, is_node, refers_to, met, Another, Honest, Exact, Canonical, Live, Shared}
+use Rattle.graph.specs.Graphs.{Link, nil, to, Node, blank, pair, leaf, Graph, hand, node, sent, Reachable, Matches, Alike, link_of, node_of, graph_of}
+use Rattle.graph.specs.Places.{place_of, cell_of, side_of, field_of, is_node, refers_to, met, Another, Exact, Canonical}
 use Rattle.graph.proofs.Reading.{holds_hand, holds_side, holds_place, holds_past, hand_of_lem, node_of_lem, cell_of_place, side_of_place, place_from_16}
 use Rattle.graph.proofs.Firsts.{Firsts, firsts_order, firsts_early, firsts_all}
 use Rattle.graph.proofs.Tags.{exact_honest}
-use Rattle.graph.proofs.Ordered.{reachable_inside, cell_reachable}
+use Rattle.graph.proofs.Ordered.{reachable_inside}
 use Rattle.graph.proofs.Partners.{alike_by_map}
 use Rattle.collector.specs.Steps.{Tour}
 use Rattle.runs.specs.Sound.{InUse, Listed, Sound, Tagged, held_below, node_sent}
-use Rattle.runs.proofs.Tagging.{no_reference, two_tags, refers_to_lem, refers_from}
-use Rattle.runs.proofs.TourVisits.{Log, ref, stood, was, was_stood, was_hand, was_side, Visits}
+use Rattle.runs.proofs.Tagging.{no_reference, refers_to_lem, refers_from}
+use Rattle.runs.proofs.TourVisits.{Log, ref, stood, was, was_stood, was_hand, was_side}
 use Rattle.runs.proofs.TourPlaces.{bare, bare_node}
-use Rattle.runs.proofs.TourSteps.{Begun, begun_sound, Touring, copied_below, held_now}
+use Rattle.runs.proofs.TourSteps.{Begun, Touring, copied_below, held_now}
 
 -- ---- links and nodes sent along a map
 

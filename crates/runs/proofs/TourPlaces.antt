@@ -1,19 +1,16 @@
 -- Banks in a collection: what places and cells hold after a write at a place, or of a copied cell. Assumes nothing.
-use Rattle.std.proofs.Common.{◌≡◌, ℕ, zero, suc, ◌+◌, ◌-◌, ◌*◌, ◌/◌, ◌%◌, ◌<◌, ◌≤◌, Bool, true, false, cond, not, ◌&&◌, ◌||◌, eqb, ltb, ◌⊎◌, List, length, get_or, take, set, sym, refl, ap, ◌∙◌, subst, inl, inr, arith, length-set, get_or-set_other, get_or-take, get_or-set_same}
+use Rattle.std.proofs.Common.{◌≡◌, ℕ, zero, suc, ◌+◌, ◌*◌, ◌<◌, ◌≤◌, Bool, true, false, ltb, List, length, get_or, set, sym, refl, ap, ◌∙◌, subst, inl, inr, arith, length-set, get_or-set_other, get_or-set_same}
 use Rattle.std.proofs.lemmas.Bool.Decides.{nat_tests}
 use Rattle.std.proofs.lemmas.Bool.{cases_lt, cases_eq, and_from}
-use Rattle.cells.specs.declared.Tag.{Tag}
-use Rattle.cells.specs.declared.Tag.TheVariants.{Unique, Sticky}
 use Rattle.cells.specs.declared.Reference.{Reference}
 use Rattle.cells.specs.declared.Field.{Field}
 use Rattle.cells.specs.declared.Field.TheVariants.{Nil, To}
 use Rattle.cells.specs.declared.Side.{Side}
 use Rattle.cells.specs.declared.Side.TheVariants.{Left, Right}
-use Rattle.cells.specs.declared.Source.{Source}
-use Rattle.cells.specs.declared.Source.TheVariants.{Nowhere, Hand, Cell as CellSide}
+use Rattle.cells.specs.declared.Source.TheVariants.{Hand, Cell as CellSide}
 use Rattle.cells.specs.declared.Cell.{Cell}
 use Rattle.cells.specs.declared.Cell.TheVariants.{Blank, Pair, Leaf, Moved}
-use Rattle.graph.specs.Places.{place_of, cell_of, side_of, field_of, holds, is_node}
+use Rattle.graph.specs.Places.{cell_of, side_of, field_of, holds, is_node}
 use Rattle.graph.proofs.Reading.{holds_hand, holds_side, holds_past}
 use Rattle.graph.proofs.Counting.{how_many}
 use Rattle.store.specs.Fields.{with_side}

@@ -1,5 +1,5 @@
 -- A collection on its way: what its steps keep, and that none is spoiled. Assumes nothing.
-use Rattle.std.proofs.Common.{◌≡◌, ℕ, zero, suc, ◌+◌, ◌-◌, ◌*◌, ◌/◌, ◌%◌, ◌<◌, ◌≤◌, Bool, true, false, cond, not, ◌&&◌, ◌||◌, eqb, ltb, ◌⊎◌, List, length, get_or, take, set, sym, refl, ap, ◌∙◌, subst, inl, inr, arith, length-set, get_or-set_other, get_or-take, get_or-set_same}
+use Rattle.std.proofs.Common.{◌≡◌, ℕ, zero, suc, ◌+◌, ◌-◌, ◌*◌, ◌<◌, ◌≤◌, Bool, true, false, cond, not, ◌&&◌, ltb, ◌⊎◌, List, length, get_or, take, set, sym, refl, ap, ◌∙◌, subst, inl, inr, arith, length-set, get_or-set_other, get_or-take, get_or-set_same}
 use Rattle.std.proofs.lemmas.Bool.Decides.{nat_tests}
 use Rattle.std.proofs.lemmas.Bool.{cases_lt, cases_eq, or_from, and_left, and_right, not_from_true}
 use Rattle.cells.specs.declared.Tag.{Tag}
@@ -7,20 +7,19 @@ use Rattle.cells.specs.declared.Tag.TheVariants.{Unique, Sticky}
 use Rattle.cells.specs.declared.Reference.{Reference}
 use Rattle.cells.specs.declared.Field.{Field}
 use Rattle.cells.specs.declared.Field.TheVariants.{Nil, To}
-use Rattle.cells.specs.declared.Source.{Source}
 use Rattle.cells.specs.declared.Cell.{Cell}
 use Rattle.cells.specs.declared.Cell.TheVariants.{Blank, Pair, Leaf, Moved}
-use Rattle.graph.specs.Places.{place_of, cell_of, side_of, field_of, holds, is_node, refers_to, Honest}
+use Rattle.graph.specs.Places.{place_of, cell_of, side_of, field_of, holds, is_node, Honest}
 use Rattle.graph.specs.Graphs.{Graph}
-use Rattle.graph.proofs.Reading.{holds_hand, holds_side, holds_place}
+use Rattle.graph.proofs.Reading.{holds_hand, holds_place}
 use Rattle.graph.proofs.Counting.{how_many, no_room}
-use Rattle.store.specs.Fields.{unique, sticky, is_unique, with_side}
-use Rattle.collector.specs.Steps.{Tour, Stand, finished, hands_with, cells_with, source_at, place_from, source_good, forward_spoiled, cell_spoiled, field_spoiled, step_spoiled, passed, marked_old, copied_over, taken_over, second_met, forwarded, met_cell, met_field, stepped, march}
+use Rattle.store.specs.Fields.{unique, sticky, is_unique}
+use Rattle.collector.specs.Steps.{Tour, Stand, finished, hands_with, cells_with, source_at, place_from, source_good, cell_spoiled, field_spoiled, step_spoiled, passed, marked_old, copied_over, taken_over, second_met, met_cell, met_field, stepped, march}
 use Rattle.collector.specs.Collections.{march_all}
-use Rattle.runs.specs.Sound.{Sound, Tagged, held_below}
-use Rattle.runs.proofs.Tagging.{no_reference, two_tags, refers_to_lem, refers_from}
+use Rattle.runs.specs.Sound.{Sound, held_below}
+use Rattle.runs.proofs.Tagging.{refers_to_lem}
 use Rattle.runs.proofs.Held.{upd, upd_here, upd_there}
-use Rattle.runs.proofs.TourVisits.{put, put_here, put_there, put_below, Log, ref, was, was_hand, was_side, was_sole, Visits, copy_log, again_log, start_log, visits_start, visits_like, visits_nil, visits_copy, visits_again, space_left}
+use Rattle.runs.proofs.TourVisits.{put, put_here, put_there, put_below, Log, ref, was, was_hand, was_side, was_sole, Visits, copy_log, again_log, start_log, visits_start, visits_nil, visits_copy, visits_again, space_left}
 use Rattle.runs.proofs.TourPlaces.{bare, bare_node, with_holds, copy_before, copy_own, hands_length, cells_length, cells_bare, source_good_lem, place_from_source, many_like, many_more}
 
 -- what a collection starts from: sixteen hands, nodes below the mark, references that lead below it, UNIQUE ones honest

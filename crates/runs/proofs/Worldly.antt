@@ -1,5 +1,5 @@
 -- What holds throughout a run, given what holds of the steps of a collection. Assumes nothing.
-use Rattle.std.proofs.Common.{◌≡◌, ℕ, ◌+◌, ◌-◌, ◌*◌, ◌<◌, ◌≤◌, Bool, true, false, cond, not, ◌||◌, eqb, ltb, ◌⊎◌, ◌↔◌, List, [], ◌∷◌, length, take, Some, None, Ok, Err, Option, Result, sym, refl, ap, ◌∙◌, subst, inl, inr, arith}
+use Rattle.std.proofs.Common.{◌≡◌, ℕ, ◌+◌, ◌-◌, ◌*◌, ◌<◌, Bool, true, false, cond, not, ◌||◌, eqb, ltb, ◌⊎◌, List, [], ◌∷◌, length, take, Some, None, Ok, Err, Option, Result, sym, refl, ap, ◌∙◌, subst, inl, inr, arith}
 use Rattle.std.proofs.lemmas.Bool.Decides.{nat_tests}
 use Rattle.std.proofs.lemmas.Bool.{cases_Bool}
 use Rattle.cells.specs.declared.Field.{Field}
@@ -8,20 +8,18 @@ use Rattle.cells.specs.declared.causes.Cause.{Cause}
 use Rattle.cells.specs.declared.causes.Cause.TheVariants.{OtherSize, NotCollecting, Spoiled}
 use Rattle.cells.specs.declared.causes.Cause.TheVariants as causes
 use Rattle.cells.specs.Leaves.{Laws}
-use Rattle.graph.specs.Graphs.{Graph, hand, nil}
-use Rattle.store.specs.declared.Mode.{Mode}
-use Rattle.store.specs.declared.Mode.TheVariants.{Settled, Working, Collecting}
+use Rattle.graph.specs.Graphs.{Graph}
 use Rattle.store.specs.Model.{Model, new_model, hand_of, is_collecting}
 use Rattle.store.specs.Calls.{Call, State, Answer, sight, cause_of, effect, answer_of, unless, first}
 use Rattle.store.specs.Calls as call
-use Rattle.collector.specs.Steps.{Tour, Stand, march, finished}
-use Rattle.collector.specs.Collections.{Act, begin, slice, finish, abandon, Banks, Reply, ready, stepped_by, kept_marks, act_cause, act_reply, act_effect, tour_of, standing, settled, march_all, whole, steps_of, copied_of, marks_of}
-use Rattle.runs.specs.Plain.{plain_call, plain_abandon, plain_sight}
+use Rattle.collector.specs.Steps.{Tour, march}
+use Rattle.collector.specs.Collections.{Act, begin, slice, finish, abandon, Banks, Reply, ready, stepped_by, kept_marks, act_cause, act_reply, act_effect, tour_of, standing, settled, march_all, steps_of}
+use Rattle.runs.specs.Plain.{plain_call, plain_abandon}
 use Rattle.runs.specs.Sound.{Sound}
 use Rattle.runs.specs.Kept.{SoundAt}
-use Rattle.runs.specs.Worlds.{Event, calls, begins, slices, finishes, abandons, World, world_beside, Said, answered, replied, saying, state_of, answer, cause, banks_after, next, after, if_accepted, run}
-use Rattle.runs.specs.Law.{RefusedRightly, LooksPlain, KeptHonest, Throughout}
-use Rattle.runs.proofs.Called.{row_none, Admitted, admitted, sound_effect, cause_not_spoiled, look_plain, sound_new}
+use Rattle.runs.specs.Worlds.{Event, calls, begins, slices, finishes, abandons, World, world_beside, Said, answered, replied, saying, state_of, answer, cause, banks_after, after, if_accepted, run}
+use Rattle.runs.specs.Law.{RefusedRightly, LooksPlain, Throughout}
+use Rattle.runs.proofs.Called.{row_none, admitted, sound_effect, cause_not_spoiled, look_plain, sound_new}
 
 -- a cause is there, or none
 some_or_none : (o : Option Cause) → ((c : Cause) × (o ≡ Some c)) ⊎ (o ≡ None)

@@ -4,7 +4,7 @@ use Rattle.cells.specs.declared.Cell.{Cell}
 use Rattle.cells.specs.declared.causes.Cause.TheVariants.{Spoiled}
 use Rattle.graph.specs.Graphs.{Graph, hand}
 use Rattle.store.specs.Model.{Model, new_model, hand_of}
-use Rattle.store.specs.Calls.{Call, State, cause_of, effect, sight_of}
+use Rattle.store.specs.Calls.{Call, cause_of, effect, sight_of}
 use Rattle.runs.specs.Plain.{empty_graph, plain_call, plain_sight}
 use Rattle.runs.specs.Sound.{Sound}
 

@@ -1,5 +1,5 @@
 -- The law over runs, for every leaf kind. Assumes nothing.
-use Rattle.std.specs.Prelude.{◌≡◌, ℕ, ◌+◌, ◌*◌, ◌<◌, ◌≤◌, Bool, true, false, ◌↔◌, List, length, get_or, take, Some, None, Ok, Err, Option, Result}
+use Rattle.std.specs.Prelude.{◌≡◌, ℕ, ◌+◌, ◌*◌, ◌<◌, ◌≤◌, Bool, false, ◌↔◌, List, length, take, Some, Ok, Err, Option}
 use Rattle.cells.specs.declared.Tag.TheVariants.{Unique}
 use Rattle.cells.specs.declared.Reference.{Reference}
 use Rattle.cells.specs.declared.Field.{Field}
@@ -8,16 +8,15 @@ use Rattle.cells.specs.declared.Cell.{Cell}
 use Rattle.cells.specs.declared.causes.Cause.{Cause}
 use Rattle.cells.specs.declared.causes.Cause.TheVariants.{Spoiled}
 use Rattle.graph.specs.Graphs.{Graph, hand, Reachable, Alike, Counts, graph_of}
-use Rattle.graph.specs.Places.{holds, Honest, Another, Canonical, Shared, refers_to}
-use Rattle.store.specs.Model.{Model, hand_of, is_collecting}
+use Rattle.graph.specs.Places.{holds, Honest, Another, Canonical, Shared}
+use Rattle.store.specs.Model.{hand_of, is_collecting}
 use Rattle.store.specs.Fields.{unique_field}
 use Rattle.store.specs.Calls.{Call, Answer, sight}
 use Rattle.store.specs.Calls as call
-use Rattle.collector.specs.Collections.{Banks, Reply, kept_marks, tour_of, march_all}
-use Rattle.collector.specs.Steps.{Tour, Stand}
+use Rattle.collector.specs.Collections.{Banks, kept_marks, tour_of, march_all}
 use Rattle.runs.specs.Plain.{plain_sight}
 use Rattle.runs.specs.Sound.{Listed}
-use Rattle.runs.specs.Worlds.{Event, calls, finishes, World, Said, answered, replied, new_world, world_beside, answer, cause, after, run}
+use Rattle.runs.specs.Worlds.{Event, calls, finishes, World, answered, replied, new_world, world_beside, answer, cause, after, run}
 
 -- a size that a store may have
 abbrev pub SizeAllowed : ℕ → Type 0

@@ -1,6 +1,6 @@
 -- The plain graph beside a run: it is fed each call's arguments and whether the call was accepted. It has no tags, and nothing
 -- is ever removed from it. Assumes nothing.
-use Rattle.std.specs.Prelude.{ℕ, Bool, true, false, List, [], ◌∷◌, ◌++◌, length, set, replicate, Option, slice_set}
+use Rattle.std.specs.Prelude.{ℕ, Bool, true, false, List, [], ◌∷◌, ◌++◌, length, replicate, Option, slice_set}
 use Rattle.std.specs.Option.{unwrap_or}
 use Rattle.cells.specs.declared.Side.{Side}
 use Rattle.cells.specs.declared.Side.TheVariants.{Left, Right}

@@ -15,7 +15,7 @@ use Rattle.runs.specs.declared.scripts.Call.{Call}
 use Rattle.runs.specs.declared.scripts.Call.TheVariants as script
 use Rattle.runs.specs.declared.scripts.Answer.{Answer}
 use Rattle.runs.specs.declared.scripts.Answer.TheVariants.{Done, Seen, Ready, Stepped, Kept}
-use Rattle.runs.specs.Worlds.{Event, calls, begins, slices, finishes, abandons, World, Said, answered, replied, saying, answer, next, after, run}
+use Rattle.runs.specs.Worlds.{Event, calls, begins, slices, finishes, abandons, World, Said, answered, replied, saying, answer, next, after}
 
 -- what an answer of the code says
 abbrev pub said : {V : Type 0} → Answer V → Said V

@@ -5,7 +5,7 @@ use Rattle.cells.specs.declared.Field.{Field}
 use Rattle.cells.specs.declared.Field.TheVariants.{Nil, To}
 use Rattle.cells.specs.declared.Cell.{Cell}
 use Rattle.cells.specs.declared.Cell.TheVariants.{Blank, Leaf}
-use Rattle.graph.specs.Graphs.{Link, Node, blank, pair, leaf, Graph, hand, node, sent, link_of, node_of}
+use Rattle.graph.specs.Graphs.{Node, blank, pair, leaf, Graph, hand, node, sent, link_of, node_of}
 use Rattle.graph.specs.Places.{holds, Honest, is_node}
 
 -- whether an address is on a list

@@ -1,12 +1,12 @@
 -- Runs: a new store, then any calls, each on the record and the banks in use as the one before left them. Assumes nothing.
-use Rattle.std.specs.Prelude.{ℕ, ◌≤◌, Bool, true, false, List, [], ◌∷◌, length, take, Some, None, Ok, Err, Option, Result}
+use Rattle.std.specs.Prelude.{ℕ, List, [], ◌∷◌, length, take, Ok, Err, Option, Result}
 use Rattle.cells.specs.declared.Field.{Field}
 use Rattle.cells.specs.declared.Cell.{Cell}
 use Rattle.cells.specs.declared.causes.Cause.{Cause}
 use Rattle.graph.specs.Graphs.{Graph}
-use Rattle.store.specs.Model.{Model, new_model}
+use Rattle.store.specs.Model.{new_model}
 use Rattle.store.specs.Calls.{Call, State, Answer, cause_of, call_answer, call_state}
-use Rattle.collector.specs.Collections.{Act, begin, slice, finish, abandon, Banks, Reply, act_cause, act_answer, act_banks}
+use Rattle.collector.specs.Collections.{begin, slice, finish, abandon, Banks, Reply, act_cause, act_answer, act_banks}
 use Rattle.runs.specs.Plain.{empty_graph, plain_call, plain_abandon}
 
 -- One call of a run. n is the number of cells of the bank that is handed in as the working or old one, k that of the one

@@ -1,4 +1,4 @@
-use Rattle.std.proofs.Common.{◌≡◌, sym, refl, ap, ◌∙◌}
+use Rattle.std.proofs.Common.{refl, ap, ◌∙◌}
 use Rattle.store.specs.Record.{view}
 use Rattle.collector.specs.Acts.{both_sized}
 use Rattle.collector.proofs.Acting.{abandon_missized, abandon_idle, abandon_done}

@@ -1,9 +1,8 @@
-use Rattle.std.proofs.Common.{◌≡◌, ◌-◌, length, sym, refl, ap, ◌∙◌}
+use Rattle.std.proofs.Common.{◌-◌, length, sym, refl, ap, ◌∙◌}
 use Rattle.std.proofs.lemmas.Result.{err_from_is_err_and}
 use Rattle.store.specs.Record.{view}
 use Rattle.collector.specs.Collections.{steps_of}
 use Rattle.collector.specs.Acts.{sliced_reply, under_way}
-use Rattle.collector.specs.Visits.{banks_at}
 use Rattle.collector.proofs.Acting.{slice_refused, slice_spoiled, slice_done}
 use Rattle.collector.proofs.calls.slice.Goals as goal
 

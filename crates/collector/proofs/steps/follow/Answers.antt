@@ -1,4 +1,4 @@
-use Rattle.std.proofs.Common.{◌≡◌, false, sym, refl, ap, ◌∙◌}
+use Rattle.std.proofs.Common.{false}
 use Rattle.store.specs.Record.{view}
 use Rattle.collector.proofs.Stepping.{step_not_refused, follows_again}
 use Rattle.collector.proofs.steps.follow.Goals as goal

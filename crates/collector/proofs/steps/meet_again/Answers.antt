@@ -1,4 +1,4 @@
-use Rattle.std.proofs.Common.{◌≡◌, ◌<◌, true, false, not, sym, refl, ap, ◌∙◌, arith, lt-ltb}
+use Rattle.std.proofs.Common.{◌≡◌, ◌<◌, true, false, not, ap, ◌∙◌, arith, lt-ltb}
 use Rattle.store.specs.Model.{is_collecting}
 use Rattle.cells.specs.declared.Tag.TheVariants.{Unique}
 use Rattle.store.specs.Record.{view}

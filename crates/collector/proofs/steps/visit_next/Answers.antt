@@ -1,4 +1,4 @@
-use Rattle.std.proofs.Common.{refl, ap, ◌∙◌}
+use Rattle.std.proofs.Common.{refl}
 use Rattle.store.specs.Record.{view}
 use Rattle.collector.proofs.Stepping.{passes, meets}
 use Rattle.collector.proofs.steps.visit_next.Goals as goal

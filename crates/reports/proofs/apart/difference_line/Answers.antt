@@ -1,6 +1,6 @@
 use Rattle.std.proofs.Common.{◌≡◌, IfOk, string_bytes, sym, ap, ◌∙◌, subst}
 use Rattle.images.specs.Layout.{or_nil}
-use Rattle.images.specs.Images.{hand_of, cell_of}
+use Rattle.images.specs.Images.{hand_of}
 use Rattle.dumps.specs.Shown.{field_text}
 use Rattle.reports.specs.Apart.{FoundText, hand_line, cell_line, DifferenceLine}
 use Rattle.reports.proofs.Steps.{made_more}

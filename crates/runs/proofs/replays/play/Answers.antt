@@ -1,4 +1,4 @@
-use Rattle.std.proofs.Common.{◌≡◌, ◌+◌, vec_items, sym, refl, ap, ◌∙◌, add-zero, add_assoc, arith}
+use Rattle.std.proofs.Common.{◌+◌, vec_items, sym, refl, ap, ◌∙◌, add-zero, add_assoc, arith}
 use Rattle.runs.specs.Rigs.{banks_of}
 use Rattle.runs.specs.Replays.{world_at}
 use Rattle.runs.proofs.Replaying.{one_more_lem, played_none, played_one, played_all}

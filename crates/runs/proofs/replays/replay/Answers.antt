@@ -1,4 +1,4 @@
-use Rattle.std.proofs.Common.{◌≡◌, ◌++◌, map, vec_items, sym, ap, ◌∙◌}
+use Rattle.std.proofs.Common.{◌++◌, map, ap, ◌∙◌}
 use Rattle.runs.specs.Worlds.{run}
 use Rattle.runs.specs.Scripts.{said_by, events_of, answers_of}
 use Rattle.runs.specs.Rigs.{banks_of}

@@ -1,4 +1,4 @@
-use Rattle.std.proofs.Common.{[], length, is_some, sym, refl, ap, ◌∙◌}
+use Rattle.std.proofs.Common.{[], length, is_some, sym, ap, ◌∙◌}
 use Rattle.store.specs.Record.{view}
 use Rattle.collector.specs.Visits.{banks_at}
 use Rattle.runs.specs.Scripts.{idle_cause}

@@ -1,4 +1,4 @@
-use Rattle.std.proofs.Common.{◌≡◌, [], sym, refl, subst}
+use Rattle.std.proofs.Common.{[], sym, refl, subst}
 use Rattle.runs.specs.Plain.{empty_graph}
 use Rattle.runs.specs.Worlds.{World}
 use Rattle.runs.specs.Rigs.{banks_of, Fits}
