@@ -3,13 +3,22 @@
 
 use commands::Ended;
 use std::env;
+use std::process::ExitCode;
 
-fn main(rt: HostRuntime) -> Result<(), Ended> {
-    let Ok(words) = env::args(&rt) else {
+fn run(rt: &HostRuntime) -> Result<(), Ended> {
+    let Ok(words) = env::args(rt) else {
         return Err(Ended::Wrong);
     };
     let Ok(args) = words.collect::<Vec<String>>(rt.alloc()) else {
         return Err(Ended::Wrong);
     };
-    commands::run(&rt, args.as_slice())
+    commands::run(rt, args.as_slice())
+}
+
+// What there is to say was said before, so that the status alone is left.
+fn main(rt: HostRuntime) -> ExitCode {
+    match run(&rt) {
+        Ok(()) => ExitCode::SUCCESS,
+        Err(_) => ExitCode::FAILURE,
+    }
 }
