@@ -2,15 +2,14 @@
 use crate::Ended;
 use crate::files::read_image;
 use images::same;
-use reports::apart::{difference_line, first_difference};
+use reports::apart::{Difference, difference_line, first_difference};
 use std::alloc::AllocError;
 use texts::typed::TypedLeaf;
 
 fn say_difference<V: TypedLeaf>(rt: &HostRuntime, a: &[u8], b: &[u8]) -> Result<(), AllocError> {
-    if let Some(difference) = first_difference::<V>(a, b) {
-        let line = difference_line::<V>(rt.alloc(), a, b, difference)?;
-        let _ = rt.println(line);
-    }
+    let difference = first_difference::<V>(a, b).unwrap_or(Difference::Cell(u16::MAX));
+    let line = difference_line::<V>(rt.alloc(), a, b, difference)?;
+    let _ = rt.println(line);
     Ok(())
 }
 

@@ -61,14 +61,14 @@ fn draw_hands(rt: &HostRuntime, image: &[u8]) -> Result<(), AllocError> {
 }
 
 fn draw<V: TypedLeaf>(rt: &HostRuntime, image: &[u8]) -> Result<(), AllocError> {
-    let count = images::check::<V>(image).unwrap_or(0);
-    let shared = shared_cells::<V>(image, count);
+    let shared = shared_cells::<V>(image, u16::MAX);
     let _ = rt.println("digraph image {");
     draw_hands(rt, image)?;
-    for at in 0..count {
-        if let Some(cell) = cell_of::<V>(image, at) {
-            draw_cell(rt, at, cell, shared.has(at))?;
-        }
+    for at in 0..=u16::MAX {
+        let Some(cell) = cell_of::<V>(image, at) else {
+            break;
+        };
+        draw_cell(rt, at, cell, shared.has(at))?;
     }
     let _ = rt.println("}");
     Ok(())

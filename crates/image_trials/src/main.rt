@@ -7,6 +7,7 @@ use images::{cell_of, check, diagnose, hand_of, same};
 use kinds::instructions::Instruction;
 use kinds::points::Point;
 use std::alloc::{AllocError, AllocFailed, Global};
+use std::process::ExitCode;
 use std::{env, fs};
 
 // Why the program ends with status 1.
@@ -127,8 +128,8 @@ fn run(rt: &HostRuntime, name: &str) -> Result<(), Ended> {
     Ok(())
 }
 
-fn main(rt: HostRuntime) -> Result<(), Ended> {
-    let Ok(words) = env::args(&rt) else {
+fn run_all(rt: &HostRuntime) -> Result<(), Ended> {
+    let Ok(words) = env::args(rt) else {
         return Err(Ended::Wrong);
     };
     let Ok(args) = words.collect::<Vec<String>>(rt.alloc()) else {
@@ -138,7 +139,15 @@ fn main(rt: HostRuntime) -> Result<(), Ended> {
         return Err(Ended::Wrong);
     };
     for name in names {
-        run(&rt, name.as_str())?;
+        run(rt, name.as_str())?;
     }
     Ok(())
+}
+
+// The status alone tells of an end before the last case.
+fn main(rt: HostRuntime) -> ExitCode {
+    match run_all(&rt) {
+        Ok(()) => ExitCode::SUCCESS,
+        Err(_) => ExitCode::FAILURE,
+    }
 }

@@ -15,6 +15,10 @@ use Rattle.store.specs.Bounds.{listed}
 abbrev pub view : Record → Model
 view r = record { size = r.size; mark = r.mark; hands = r.hands.fields; free = listed r.free.count r.free.at; mode = r.mode }
 
+abbrev pub viewed : Result Record Cause → Result Model Cause
+viewed (Ok r) = Ok (view r)
+viewed (Err c) = Err c
+
 -- what a store that does not collect does after an event
 abbrev pub turned_idle : Mode → Event → Mode
 turned_idle m Edited = Working

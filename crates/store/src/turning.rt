@@ -6,6 +6,7 @@ use crate::Mode;
 use crate::free::FreeList;
 use crate::hands::Hands;
 
+mod making;
 mod turn;
 
 // What happens to a store, as far as its mode follows it. Steps bring the counts as they stand after them.
