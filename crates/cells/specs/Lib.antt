@@ -1,3 +1,4 @@
 pub mod Banks
 pub mod Causes
 pub mod Leaves
+pub mod Shown

@@ -35,8 +35,5 @@ pub fn cell_at<V: LeafKind, B: Bank<V>>(bank: &B, at: u16) -> Cell<V>
     ensures found { result ≡ slice_index_or (B.cells bank.now) at Blank }
     ensures lawful { leaf_lawful V.lawful result ≡ true }
 {
-    match bank.read(at) {
-        Some(cell) => cell,
-        None => Cell::Blank,
-    }
+    bank.read(at).unwrap_or(Cell::Blank)
 }

@@ -47,8 +47,5 @@ pub fn compare<V: LeafKind>(a: V, b: V) -> Result<bool, Cause>
 {
     let x = a.tidy()?;
     let y = b.tidy()?;
-    match (x.to_word(), y.to_word()) {
-        (Some(p), Some(q)) => Ok(p == q),
-        _ => Err(Cause::ValueRefused),
-    }
+    Ok(x.to_word() == y.to_word())
 }

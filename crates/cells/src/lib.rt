@@ -4,6 +4,7 @@
 pub mod banks;
 pub mod causes;
 pub mod leaves;
+mod shown;
 
 // Whether a reference is known to be the only one to its cell.
 #[derive(Clone, Copy, PartialEq, Eq, Debug)]

@@ -56,28 +56,20 @@ impl LeafKind for Instruction {
         if !self.is_lawful() {
             return None;
         }
-        let argument = self.argument.cast_unsigned();
-        Some(
-            self.operation as u64 * 0x100_0000_0000_0000
-                + self.channel as u64 * 0x1_0000_0000_0000
-                + argument as u64,
-        )
+        let [a, b, c, d] = self.argument.cast_unsigned().to_be_bytes();
+        Some(u64::from_be_bytes([self.operation, self.channel, 0, 0, a, b, c, d]))
     }
 
     fn from_word(w: u64) -> Option<Instruction> {
-        let operation = (w / 0x100_0000_0000_0000) as u8;
-        let channel = (w / 0x1_0000_0000_0000 % 0x100) as u8;
-        let argument = ((w % 0x1_0000_0000) as u32).cast_signed();
+        let [operation, channel, 0, 0, a, b, c, d] = w.to_be_bytes() else {
+            return None;
+        };
         let i = Instruction {
             operation,
             channel,
-            argument,
+            argument: u32::from_be_bytes([a, b, c, d]).cast_signed(),
         };
-        if w / 0x1_0000_0000 % 0x1_0000 == 0 && i.is_lawful() {
-            Some(i)
-        } else {
-            None
-        }
+        if i.is_lawful() { Some(i) } else { None }
     }
 }
 

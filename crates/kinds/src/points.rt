@@ -8,7 +8,7 @@ use cells::leaves::LeafKind;
 use std::fmt;
 
 // The load in newtons and the reading in millivolts, whatever the two numbers are.
-#[derive(Clone, Copy, Debug)]
+#[derive(Clone, Copy, PartialEq, Debug)]
 pub struct Point {
     pub load: f32,
     pub reading: f32,
@@ -34,12 +34,8 @@ impl LeafKind for Point {
     }
 
     fn tidy(self) -> Result<Point, Cause> {
-        let Some(load) = tidy_number(self.load) else {
-            return Err(Cause::ValueRefused);
-        };
-        let Some(reading) = tidy_number(self.reading) else {
-            return Err(Cause::ValueRefused);
-        };
+        let load = tidy_number(self.load).ok_or(Cause::ValueRefused)?;
+        let reading = tidy_number(self.reading).ok_or(Cause::ValueRefused)?;
         Ok(Point { load, reading })
     }
 
