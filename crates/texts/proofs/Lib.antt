@@ -1,6 +1,5 @@
 pub mod HexSteps
 pub mod WordsAt
-pub mod SameSteps
 pub mod Places
 pub mod Tidied
 pub mod Pieces

@@ -18,8 +18,8 @@ after_more xs ys e (Err n) p = refl
 pub line_count : (ws : List (Bor (List ℕ))) (text : List ℕ) → word_bytes ws ≡ lines_of text → length (lines_of text) ≡ length ws
 line_count ws text e = sym (ap length e) ∙ length-map ws (λ x. x.now)
 
-pub line_at : (ws : List (Bor (List ℕ))) (text : List ℕ) (i : ℕ) (x : Bor (List ℕ)) → word_bytes ws ≡ lines_of text → i < length ws → x ≡ get_or ws i x → x.now ≡ get_or (lines_of text) i []
-line_at ws text i x e l h = ap (λ x. x.now) h ∙ word_at ws i x l ∙ ap (λ ls. get_or ls i []) e
+pub line_at : (ws : List (Bor (List ℕ))) (text : List ℕ) (i : ℕ) (d : Bor (List ℕ)) → word_bytes ws ≡ lines_of text → i < length ws → (get_or ws i d).now ≡ get_or (lines_of text) i []
+line_at ws text i d e l = word_at ws i d l ∙ ap (λ ls. get_or ls i []) e
 
 pub after_none : {V : Type 0} (r : Listing V) → after [] r ≡ r
 after_none (Ok xs) = refl

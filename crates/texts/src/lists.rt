@@ -1,6 +1,8 @@
 // Lists of typed values, a value to a line, and the report on one or two of them.
 ghost use Rattle.std.specs.Prelude.{◌≡◌, ◌++◌, IfOk, string_bytes};
-ghost use Rattle.texts.specs.Lists.{same_value, FirstDifference, value_line, refusal_line, EntryLine, Lawful, Found, Tidy, place_text, same_line, different_line, verdict_line};
+ghost use Rattle.texts.specs.declared.lists.ListFault.TheVariants.{Memory};
+ghost use Rattle.texts.specs.Typed.{word_bytes};
+ghost use Rattle.texts.specs.Lists.{same_value, FirstDifference, value_line, refusal_line, EntryLine, Lawful, Found, Tidy, Value, place_text, same_line, different_line, verdict_line};
 
 use crate::hex::push_hex;
 use crate::typed::TypedLeaf;
@@ -20,10 +22,7 @@ fn same_value<V: LeafKind>(a: Result<V, Cause>, b: Result<V, Cause>) -> bool
     ensures { result ≡ same_value V.tidied V.alike a b }
 {
     match (a, b) {
-        (Ok(x), Ok(y)) => match compare(x, y) {
-            Ok(same) => same,
-            Err(_) => false,
-        },
+        (Ok(x), Ok(y)) => compare(x, y).unwrap_or(false),
         _ => false,
     }
 }
@@ -32,13 +31,14 @@ fn same_value<V: LeafKind>(a: Result<V, Cause>, b: Result<V, Cause>) -> bool
 pub fn first_difference<V: LeafKind>(a: &[Entry<V>], b: &[Entry<V>]) -> Option<usize>
     ensures { FirstDifference V.tidied V.alike a.now b.now result }
 {
-    let both = a.len().min(b.len());
-    for i in 0..both {
-        if !same_value(a[i].value, b[i].value) {
-            return Some(i);
-        }
+    let apart = a
+        .iter()
+        .zip(b)
+        .position(|(x, y)| !same_value(x.value, y.value));
+    if apart.is_none() && a.len() != b.len() {
+        return Some(a.len().min(b.len()));
     }
-    if a.len() == b.len() { None } else { Some(both) }
+    apart
 }
 
 // The line of the report for an accepted value that is shown as `text` and has the word `w`.
@@ -72,20 +72,23 @@ pub fn entry_line<V: TypedLeaf>(heap: Global, entry: Entry<V>) -> Result<String,
     value_line(heap, entry.line, text.as_str(), word)
 }
 
-// Where a list has its entry `i`, in words.
-fn place_text<V: LeafKind>(
-    heap: Global,
-    name: &str,
-    list: &[Entry<V>],
-    i: usize,
-) -> Result<String, AllocError>
-    ensures { IfOk result (λ s. string_bytes s ≡ place_text name.now list.now i) }
-{
-    if i < list.len() {
-        let line = list[i].line;
-        format!(in heap; "line {line} of {name}")
-    } else {
-        format!(in heap; "the end of {name}")
+// A list, and the name by which people know it.
+#[derive(Clone, Copy)]
+pub struct NamedList<'a, V> {
+    pub name: &'a str,
+    pub entries: &'a [Entry<V>],
+}
+
+impl<'a, V: LeafKind> NamedList<'a, V> {
+    // Where the list has its entry `i`, in words.
+    fn place_text(self, heap: Global, i: usize) -> Result<String, AllocError>
+        ensures { IfOk result (λ s. string_bytes s ≡ place_text self.entry.name.now self.entry.entries.now i) }
+    {
+        let name = self.name;
+        match self.entries.get(i) {
+            Some(Entry { line, .. }) => format!(in heap; "line {line} of {name}"),
+            None => format!(in heap; "the end of {name}"),
+        }
     }
 }
 
@@ -104,22 +107,18 @@ fn different_line(heap: Global, here: &str, there: &str) -> Result<String, Alloc
 // The last line of a report on two lists, by where they first differ.
 pub fn verdict_line<V: LeafKind>(
     heap: Global,
-    a_name: &str,
-    a: &[Entry<V>],
-    b_name: &str,
-    b: &[Entry<V>],
+    a: NamedList<V>,
+    b: NamedList<V>,
     apart: Option<usize>,
 ) -> Result<String, AllocError>
-    ensures { IfOk result (λ s. string_bytes s ≡ verdict_line a_name.now a.now b_name.now b.now apart) }
+    ensures { IfOk result (λ s. string_bytes s ≡ verdict_line a.entry.name.now a.entry.entries.now b.entry.name.now b.entry.entries.now apart) }
 {
-    match apart {
-        None => same_line(heap, a.len()),
-        Some(i) => {
-            let here = place_text(heap, a_name, a, i)?;
-            let there = place_text(heap, b_name, b, i)?;
-            different_line(heap, here.as_str(), there.as_str())
-        }
-    }
+    let Some(i) = apart else {
+        return same_line(heap, a.entries.len());
+    };
+    let here = a.place_text(heap, i)?;
+    let there = b.place_text(heap, i)?;
+    different_line(heap, here.as_str(), there.as_str())
 }
 
 #[derive(Debug, Drop)]
@@ -131,15 +130,27 @@ pub enum ListFault {
 }
 
 impl From<AllocError> for ListFault {
+    ghost from_gives = { λ _ fault. fault ≡ Memory };
+
     fn from(_e: AllocError) -> ListFault {
         ListFault::Memory
     }
 }
 
 impl<T: Drop> From<AllocFailed<T>> for ListFault {
+    ghost from_gives = { λ _ fault. fault ≡ Memory };
+
     fn from(_e: AllocFailed<T>) -> ListFault {
         ListFault::Memory
     }
+}
+
+// The tidied value that words stand for, or its refusal; none where they are no numbers.
+pub(crate) fn words_value<V: TypedLeaf>(words: &[&str]) -> Option<Result<V, Cause>>
+    ensures value { Value V.reads V.tidied (word_bytes words.now) result }
+    ensures lawful { Found result (λ v. Lawful V.lawful v) }
+{
+    V::of_words(words).map(|raw| raw?.tidy())
 }
 
 // The tidied value that a line holds, or its refusal; none where the words of the line are no numbers.
@@ -150,11 +161,7 @@ fn read_value<V: TypedLeaf>(
     ensures { IfOk result (λ o. Found o (λ v. Lawful V.lawful v)) }
 {
     let words: Vec<&str> = line.split_whitespace().collect(heap)?;
-    match V::of_words(words.as_slice()) {
-        Some(Ok(raw)) => Ok(Some(raw.tidy())),
-        Some(Err(cause)) => Ok(Some(Err(cause))),
-        None => Ok(None),
-    }
+    Ok(words_value(words.as_slice()))
 }
 
 // The values of a text, one to a line; blank lines and lines that begin with # are passed over.
@@ -162,16 +169,13 @@ pub fn read_list<V: TypedLeaf>(heap: Global, text: &str) -> Result<Vec<Entry<V>>
     ensures { IfOk result (λ v. Tidy V.lawful v.items) }
 {
     let mut entries = Vec::new(heap);
-    let mut number = 0usize;
-    for line in text.lines() {
-        number = number.saturating_add(1);
+    for (i, line) in text.lines().enumerate() {
+        let number = i.saturating_add(1);
         let line = line.trim();
         if line.is_empty() || line.starts_with('#') {
             continue;
         }
-        let Some(value) = read_value::<V>(heap, line)? else {
-            return Err(ListFault::Unreadable(number));
-        };
+        let value = read_value::<V>(heap, line)?.ok_or(ListFault::Unreadable(number))?;
         entries.push(Entry {
             line: number,
             value,

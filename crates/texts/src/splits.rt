@@ -40,8 +40,8 @@ pub fn split<'a>(heap: Global, text: &'a str, by: Separator) -> Result<Vec<&'a s
     let bytes = text.as_bytes();
     let mut pieces = Vec::new(heap);
     let mut start = 0;
-    for i in 0..bytes.len() {
-        if by.separates(bytes[i]) {
+    for (i, b) in bytes.iter().enumerate() {
+        if by.separates(*b) {
             if by.keeps(i - start) {
                 pieces.push(&text[start..i])?;
             }
@@ -58,13 +58,12 @@ pub fn split<'a>(heap: Global, text: &'a str, by: Separator) -> Result<Vec<&'a s
 fn is_mark(word: &str) -> bool
     ensures { result ≡ begins 35 word.now }
 {
-    let bytes = word.as_bytes();
-    bytes.len() > 0 && bytes[0] == b'#'
+    word.as_bytes().first() == Some(&b'#')
 }
 
 // Whether a line with these words is blank or a comment.
 pub fn is_passed_over(words: &[&str]) -> bool
     ensures { result ≡ passed_over (word_bytes words.now) }
 {
-    words.is_empty() || is_mark(words[0])
+    words.first().is_none_or(|word| is_mark(word))
 }

@@ -33,10 +33,7 @@ pub trait TypedLeaf: LeafKind {
 fn read_number(text: &str) -> Option<f32>
     ensures { ReadsNumber text.now result }
 {
-    match text.parse::<f32>() {
-        Ok(x) => Some(x),
-        Err(_) => None,
-    }
+    text.parse::<f32>().ok()
 }
 
 fn read_point(load: &str, reading: &str) -> Option<Point>
@@ -58,13 +55,10 @@ impl TypedLeaf for Point {
     }
 
     fn of_words(words: &[&str]) -> Option<Result<Point, Cause>> {
-        if words.len() != 2 {
+        let [load, reading] = words else {
             return None;
-        }
-        match read_point(words[0], words[1]) {
-            Some(p) => Some(Ok(p)),
-            None => None,
-        }
+        };
+        read_point(load, reading).map(Ok)
     }
 
     fn show(&self, heap: Global) -> Result<String, AllocError> {
@@ -76,29 +70,17 @@ impl TypedLeaf for Point {
 fn read_whole(text: &str) -> Option<i64>
     ensures { ReadsWhole text.now result }
 {
-    match text.parse::<i64>() {
-        Ok(z) => Some(z),
-        Err(_) => None,
-    }
+    text.parse::<i64>().ok()
 }
 
 // A number that is too large for its part is none that the leaf kind accepts.
 fn fit(operation: i64, channel: i64, argument: i64) -> Result<Instruction, Cause>
     ensures { result ≡ instruction_of operation channel argument }
 {
-    let Ok(operation) = u8::try_from(operation) else {
-        return Err(Cause::ValueRefused);
-    };
-    let Ok(channel) = u8::try_from(channel) else {
-        return Err(Cause::ValueRefused);
-    };
-    let Ok(argument) = i32::try_from(argument) else {
-        return Err(Cause::ValueRefused);
-    };
     Ok(Instruction {
-        operation,
-        channel,
-        argument,
+        operation: u8::try_from(operation).map_err(|_| Cause::ValueRefused)?,
+        channel: u8::try_from(channel).map_err(|_| Cause::ValueRefused)?,
+        argument: i32::try_from(argument).map_err(|_| Cause::ValueRefused)?,
     })
 }
 
@@ -125,10 +107,10 @@ impl TypedLeaf for Instruction {
     }
 
     fn of_words(words: &[&str]) -> Option<Result<Instruction, Cause>> {
-        if words.len() != 3 {
+        let [operation, channel, argument] = words else {
             return None;
-        }
-        read_instruction(words[0], words[1], words[2])
+        };
+        read_instruction(operation, channel, argument)
     }
 
     fn show(&self, heap: Global) -> Result<String, AllocError> {

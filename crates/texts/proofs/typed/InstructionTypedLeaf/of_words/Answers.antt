@@ -1,8 +1,8 @@
-use Rattle.std.proofs.Common.{◌≡◌, ℕ, List, [], length, get_or, None, Option, Result, arith, Bor}
+use Rattle.std.proofs.Common.{◌≡◌, ℕ, List, [], length, get_or, Option, Result, arith, Bor}
 use Rattle.cells.specs.declared.causes.Cause.{Cause}
 use Rattle.kinds.specs.declared.instructions.Instruction.{Instruction}
 use Rattle.texts.specs.Typed.{word_bytes, ReadsInstruction, InstructionWords}
-use Rattle.texts.proofs.WordsAt.{at_word, counted, not_counted}
+use Rattle.texts.proofs.WordsAt.{at_word, counted}
 use Rattle.texts.proofs.typed.InstructionTypedLeaf.of_words.Goals as goal
 
 three : (ws : List (Bor (List ℕ))) (d e f : Bor (List ℕ)) (r : Option (Result Instruction Cause)) → length ws ≡ 3
@@ -15,10 +15,5 @@ three ws d e f r h p =
     (at_word (λ y. P (get_or ws 0 d).now y (get_or bs 2 [])) ws 1 e (omega arith)
     (at_word (λ z. P (get_or ws 0 d).now (get_or ws 1 e).now z) ws 2 f (omega arith) p)))
 
-pub returns-then-words-ne3 : goal.returns-then-words-ne3
-returns-then-words-ne3 c =
-    let ws = c.args.words.now in
-    not_counted 3 ws (ReadsInstruction (get_or (word_bytes ws) 0 []) (get_or (word_bytes ws) 1 []) (get_or (word_bytes ws) 2 []) None) c.if-words-ne3.true
-
 pub returns : goal.returns
-returns c = three c.args.words.now _ _ _ c.read_instruction.result c.if-words-ne3.false c.read_instruction.ensures
+returns c = three c.args.words.now _ _ _ c.read_instruction.result (omega arith) c.read_instruction.ensures
