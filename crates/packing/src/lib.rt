@@ -2,23 +2,39 @@
 // packing unpacks to it: every reserved bit is checked.
 #![tactic(auto)]
 
-ghost use Rattle.std.specs.Prelude.{◌≡◌, true, false, is_some, Some, None, ◌≢◌, slice_index};
+ghost use Rattle.std.specs.Prelude.{◌≡◌, true, false, unwrap_or, Some, None, ◌≢◌, slice_index};
 ghost use Rattle.cells.specs.declared.Cell.TheVariants.{Blank};
 ghost use Rattle.cells.specs.Banks.{leaf_lawful};
 ghost use Rattle.packing.specs.Fields.{pack_reference, unpack_reference, pack_field, unpack_field, pack_source, unpack_source, field_fits};
+ghost use Rattle.packing.specs.Kinds.{kind_of};
 ghost use Rattle.packing.specs.Cells.{nine_bytes, body_of, halves, kind_and_body, pack_cell, cell_of, unpack_cell, cell_fits, Alone};
 
 use cells::leaves::LeafKind;
 use cells::{Cell, Field, Reference, Side, Source, Tag};
 
-// The first byte of each kind of cell: two bits, and six zero bits.
-const BLANK: u8 = 0x00;
+// Which cell nine bytes hold: two bits of the first byte, before six zero bits.
+#[derive(Clone, Copy, PartialEq, Eq, Debug)]
+enum Kind {
+    Blank = 0x00,
+    Pair = 0x40,
+    Leaf = 0x80,
+    Moved = 0xC0,
+}
 
-const PAIR: u8 = 0x40;
-
-const LEAF: u8 = 0x80;
-
-const MOVED: u8 = 0xC0;
+impl Kind {
+    // The kind that a byte says, if it says one.
+    fn of(byte: u8) -> Option<Kind>
+        ensures { result ≡ kind_of byte }
+    {
+        match byte {
+            0x00 => Some(Kind::Blank),
+            0x40 => Some(Kind::Pair),
+            0x80 => Some(Kind::Leaf),
+            0xC0 => Some(Kind::Moved),
+            _ => None,
+        }
+    }
+}
 
 fn pack_reference(r: Reference) -> u32
     ensures packed { result ≡ pack_reference r }
@@ -31,26 +47,18 @@ fn pack_reference(r: Reference) -> u32
     mark * 0x1_0000 + u32::from(r.address)
 }
 
-fn is_reference(w: u32) -> bool
-    ensures { result ≡ is_some (unpack_reference w) }
+fn unpack_reference(w: u32) -> Option<Reference>
+    ensures { result ≡ unpack_reference w }
 {
-    let mark = w / 0x1_0000;
-    mark == 0x8000 || mark == 0xC000
-}
-
-fn reference_of(w: u32) -> Reference
-    requires { is_some (unpack_reference w) ≡ true }
-    ensures { unpack_reference w ≡ Some result }
-{
-    let tag = if w / 0x1_0000 == 0x8000 {
-        Tag::Unique
-    } else {
-        Tag::Sticky
+    let tag = match w / 0x1_0000 {
+        0x8000 => Tag::Unique,
+        0xC000 => Tag::Sticky,
+        _ => return None,
     };
-    Reference {
+    Some(Reference {
         tag,
         address: (w % 0x1_0000) as u16,
-    }
+    })
 }
 
 // The word of a field; nil is zero.
@@ -65,38 +73,16 @@ pub fn pack_field(f: Field) -> u32
     }
 }
 
-fn is_field(w: u32) -> bool
-    ensures { result ≡ is_some (unpack_field w) }
-{
-    w == 0 || is_reference(w)
-}
-
-// Written out, and not by `reference_of`: a reference that is copied into a field slows every read of a bank.
-fn field_of(w: u32) -> Field
-    requires { is_some (unpack_field w) ≡ true }
-    ensures { unpack_field w ≡ Some result }
-{
-    let address = (w % 0x1_0000) as u16;
-    match w / 0x1_0000 {
-        0 => Field::Nil,
-        0x8000 => Field::To(Reference {
-            tag: Tag::Unique,
-            address,
-        }),
-        _ => Field::To(Reference {
-            tag: Tag::Sticky,
-            address,
-        }),
-    }
-}
-
 // The field that has a word, or none.
 pub fn unpack_field(w: u32) -> Option<Field>
     ensures unpacked { result ≡ unpack_field w }
     ensures only { elim result [ Some f ↦ pack_field f ≡ w | None ↦ Unit {0} ] }
     ensures fits { elim result [ Some f ↦ field_fits f ≡ true | None ↦ Unit {0} ] }
 {
-    if is_field(w) { Some(field_of(w)) } else { None }
+    if w == 0 {
+        return Some(Field::Nil);
+    }
+    Some(Field::To(unpack_reference(w)?))
 }
 
 fn pack_source(s: Source) -> u32
@@ -139,14 +125,14 @@ fn kind_and_body<V: LeafKind>(c: &Cell<V>) -> (u8, u64)
     ensures fits { cell_fits c.now ≡ true }
 {
     match *c {
-        Cell::Blank => (BLANK, 0),
-        Cell::Pair { left, right } => (PAIR, join(pack_field(left), pack_field(right))),
+        Cell::Blank => (Kind::Blank as u8, 0),
+        Cell::Pair { left, right } => (Kind::Pair as u8, join(pack_field(left), pack_field(right))),
         Cell::Leaf(v) => match v.to_word() {
-            Some(word) => (LEAF, word),
-            None => (BLANK, 0),
+            Some(word) => (Kind::Leaf as u8, word),
+            None => (Kind::Blank as u8, 0),
         },
         Cell::Moved { forward, source } => (
-            MOVED,
+            Kind::Moved as u8,
             join(pack_reference(forward), pack_source(source)),
         ),
     }
@@ -172,29 +158,23 @@ pub fn pack_cell<V: LeafKind>(c: &Cell<V>) -> [u8; 9]
     nine_bytes(kind, body)
 }
 
-// The cell of a kind's byte and a body.
-fn cell_of<V: LeafKind>(kind: u8, body: u64) -> Cell<V>
-    ensures { result ≡ cell_of V.taken kind body }
+// The cell of a kind's byte and a body, where they are those of one that is not blank.
+fn full_cell<V: LeafKind>(kind: u8, body: u64) -> Option<Cell<V>>
+    ensures { cell_of V.taken kind body ≡ unwrap_or result Blank }
 {
     let upper = (body / 0x1_0000_0000) as u32;
     let lower = (body % 0x1_0000_0000) as u32;
-    match kind {
-        PAIR if is_field(upper) && is_field(lower) => Cell::Pair {
-            left: field_of(upper),
-            right: field_of(lower),
-        },
-        LEAF => match V::from_word(body) {
-            Some(v) => Cell::Leaf(v),
-            None => Cell::Blank,
-        },
-        MOVED if is_reference(upper) => match unpack_source(lower) {
-            Some(source) => Cell::Moved {
-                forward: reference_of(upper),
-                source,
-            },
-            None => Cell::Blank,
-        },
-        _ => Cell::Blank,
+    match Kind::of(kind)? {
+        Kind::Blank => None,
+        Kind::Pair => Some(Cell::Pair {
+            left: unpack_field(upper)?,
+            right: unpack_field(lower)?,
+        }),
+        Kind::Leaf => V::from_word(body).map(Cell::Leaf),
+        Kind::Moved => Some(Cell::Moved {
+            forward: unpack_reference(upper)?,
+            source: unpack_source(lower)?,
+        }),
     }
 }
 
@@ -214,5 +194,5 @@ pub fn unpack_cell<V: LeafKind>(bytes: [u8; 9]) -> Cell<V>
     ensures fits { cell_fits result ≡ true }
 {
     let (kind, body) = split_bytes(bytes);
-    cell_of(kind, body)
+    full_cell(kind, body).unwrap_or(Cell::Blank)
 }
