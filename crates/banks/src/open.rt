@@ -33,21 +33,11 @@ fn as_read<V: LeafKind>(cell: &Cell<V>) -> Cell<V>
     }
 }
 
-fn lent_at<V: LeafKind>(lent: &[Cell<V>], at: u16) -> Option<Cell<V>>
-    ensures { result ≡ cell_at lent.now at }
-{
-    let i = at as usize;
-    if i < lent.len() { Some(lent[i]) } else { None }
-}
-
 // The lent cell at an address as it reads, none at or past the end.
 pub fn read_open<V: LeafKind>(lent: &[Cell<V>], at: u16) -> Option<Cell<V>>
     ensures found { result ≡ found_readable V.lawful (cell_at lent.now at) }
 {
-    match lent_at(lent, at) {
-        Some(cell) => Some(as_read(&cell)),
-        None => None,
-    }
+    Some(as_read(lent.get(at as usize)?))
 }
 
 // Writes a pair, a moved cell or a lawful leaf at an address below the length, and answers yes.
@@ -62,27 +52,6 @@ pub fn put_open<V: LeafKind>(lent: &mut [Cell<V>], at: u16, cell: &Cell<V>) -> b
     }
     lent[i] = *cell;
     true
-}
-
-// The three by what the lent cells mean.
-fn meant_size<V: LeafKind>(lent: &[Cell<V>]) -> usize
-    ensures { result ≡ length (open_cells V.lawful lent.now) }
-{
-    lent.len()
-}
-
-fn meant_read<V: LeafKind>(lent: &[Cell<V>], at: u16) -> Option<Cell<V>>
-    ensures found { result ≡ cell_at (open_cells V.lawful lent.now) at }
-    ensures lawful { found_lawful V.lawful result ≡ true }
-{
-    read_open(lent, at)
-}
-
-fn meant_put<V: LeafKind>(lent: &mut [Cell<V>], at: u16, cell: &Cell<V>) -> bool
-    ensures answer { result ≡ takes V.lawful (open_cells V.lawful lent.old) at cell.now }
-    ensures after { open_cells V.lawful lent.new ≡ after_put V.lawful (open_cells V.lawful lent.old) at cell.now }
-{
-    put_open(lent, at, cell)
 }
 
 #[derive(Drop)]
@@ -105,14 +74,14 @@ impl<'a, V: LeafKind> Bank<V> for OpenBank<'a, V> {
     ghost root = { λ b. b.lent.ghost_name };
 
     fn size(&self) -> usize {
-        meant_size(self.lent)
+        self.lent.len()
     }
 
     fn read(&self, at: u16) -> Option<Cell<V>> {
-        meant_read(self.lent, at)
+        read_open(self.lent, at)
     }
 
     fn put(&mut self, at: u16, cell: &Cell<V>) -> bool {
-        meant_put(self.lent, at, cell)
+        put_open(self.lent, at, cell)
     }
 }

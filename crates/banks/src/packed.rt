@@ -1,5 +1,5 @@
 // A bank over lent bytes, nine to a cell. The bytes left over belong to no cell.
-ghost use Rattle.std.specs.Prelude.{◌≡◌, ◌+◌, ◌*◌, ◌≤◌, true, length};
+ghost use Rattle.std.specs.Prelude.{◌≡◌, ◌+◌, ◌*◌, ◌≤◌, true, false, length, MatchOption, nat_lt};
 ghost use Rattle.cells.specs.Banks.{cell_at, takes, after_put, found_lawful};
 ghost use Rattle.banks.specs.Packed.{size_of, nine_at, nine_set, cell_in, packed_cells, packed_takes, packed_after};
 ghost use Rattle.packing.specs.Cells.{pack_cell, unpack_cell};
@@ -17,22 +17,12 @@ pub fn size_packed(bytes: &[u8]) -> usize
     bytes.len() / 9
 }
 
-fn nine_at(bytes: &[u8], at: u16) -> [u8; 9]
-    requires { 9 * at + 9 ≤ length bytes.now }
-    ensures { result ≡ nine_at bytes.now at }
+// The nine bytes at an address, none at or past the size.
+fn nine_at(bytes: &[u8], at: u16) -> Option<&[u8; 9]>
+    ensures { MatchOption result (nat_lt at (size_of bytes.now) ≡ false) (λ nine. (nat_lt at (size_of bytes.now) ≡ true) × (nine.now ≡ nine_at bytes.now at)) }
 {
     let p = 9 * at as usize;
-    [
-        bytes[p],
-        bytes[p + 1],
-        bytes[p + 2],
-        bytes[p + 3],
-        bytes[p + 4],
-        bytes[p + 5],
-        bytes[p + 6],
-        bytes[p + 7],
-        bytes[p + 8],
-    ]
+    bytes.get(p..p + 9)?.first_chunk::<9>()
 }
 
 // The eight bytes of the body first: the compiler then joins them into one store, which it does not do with nine.
@@ -50,10 +40,7 @@ pub fn read_packed<V: LeafKind>(bytes: &[u8], at: u16) -> Option<Cell<V>>
     ensures found { result ≡ cell_in V.taken bytes.now at }
     ensures lawful { found_lawful V.lawful result ≡ true }
 {
-    if 9 * at as usize + 9 > bytes.len() {
-        return None;
-    }
-    Some(unpack_cell(nine_at(bytes, at)))
+    Some(unpack_cell(*nine_at(bytes, at)?))
 }
 
 // Writes the nine bytes of a pair, a moved cell or a lawful leaf at an address below the size, and answers yes; else no, and
@@ -68,27 +55,6 @@ pub fn put_packed<V: LeafKind>(bytes: &mut [u8], at: u16, cell: &Cell<V>) -> boo
     }
     write_nine(bytes, at, &pack_cell(cell));
     true
-}
-
-// The three by what the lent bytes mean.
-fn meant_size<V: LeafKind>(bytes: &[u8]) -> usize
-    ensures { result ≡ length (packed_cells V.taken bytes.now) }
-{
-    size_packed(bytes)
-}
-
-fn meant_read<V: LeafKind>(bytes: &[u8], at: u16) -> Option<Cell<V>>
-    ensures found { result ≡ cell_at (packed_cells V.taken bytes.now) at }
-    ensures lawful { found_lawful V.lawful result ≡ true }
-{
-    read_packed(bytes, at)
-}
-
-fn meant_put<V: LeafKind>(bytes: &mut [u8], at: u16, cell: &Cell<V>) -> bool
-    ensures answer { result ≡ takes V.lawful (packed_cells V.taken bytes.old) at cell.now }
-    ensures after { packed_cells V.taken bytes.new ≡ after_put V.lawful (packed_cells V.taken bytes.old) at cell.now }
-{
-    put_packed(bytes, at, cell)
 }
 
 #[derive(Drop)]
@@ -111,14 +77,14 @@ impl<'a, V: LeafKind> Bank<V> for PackedBank<'a> {
     ghost root = { λ b. b.lent.ghost_name };
 
     fn size(&self) -> usize {
-        meant_size::<V>(self.lent)
+        size_packed(self.lent)
     }
 
     fn read(&self, at: u16) -> Option<Cell<V>> {
-        meant_read(self.lent, at)
+        read_packed(self.lent, at)
     }
 
     fn put(&mut self, at: u16, cell: &Cell<V>) -> bool {
-        meant_put(self.lent, at, cell)
+        put_packed(self.lent, at, cell)
     }
 }
