@@ -2,69 +2,12 @@
 #![tactic(auto)]
 
 ghost use Rattle.std.specs.Prelude.{◌≡◌, IfOk, Some, string_bytes};
-ghost use Rattle.dumps.specs.Shown.{tag_text, reference_text, field_text, side_text, source_text, pair_text, leaf_text, moved_text, CellText, line_of, noted, tally_text};
+ghost use Rattle.dumps.specs.Shown.{leaf_text, CellText, line_of, noted, tally_text};
 
-use cells::{Cell, Field, Reference, Side, Source, Tag};
+use cells::Cell;
 use std::alloc::{AllocError, Global};
 use texts::hex::push_hex;
 use texts::typed::TypedLeaf;
-
-fn tag_text(t: Tag) -> &'static str
-    ensures { result.now ≡ tag_text t }
-{
-    match t {
-        Tag::Unique => "unique",
-        Tag::Sticky => "sticky",
-    }
-}
-
-fn reference_text(heap: Global, r: Reference) -> Result<String, AllocError>
-    ensures { IfOk result (λ t. string_bytes t ≡ reference_text r) }
-{
-    let tag = tag_text(r.tag);
-    let address = r.address;
-    format!(in heap; "{tag} {address}")
-}
-
-// `nil`, or the tag and the address.
-pub fn field_text(heap: Global, f: Field) -> Result<String, AllocError>
-    ensures { IfOk result (λ t. string_bytes t ≡ field_text f) }
-{
-    match f {
-        Field::Nil => String::from_str(heap, "nil"),
-        Field::To(r) => reference_text(heap, r),
-    }
-}
-
-fn side_text(s: Side) -> &'static str
-    ensures { result.now ≡ side_text s }
-{
-    match s {
-        Side::Left => "left",
-        Side::Right => "right",
-    }
-}
-
-fn source_text(heap: Global, s: Source) -> Result<String, AllocError>
-    ensures { IfOk result (λ t. string_bytes t ≡ source_text s) }
-{
-    match s {
-        Source::Nowhere => String::from_str(heap, "nowhere"),
-        Source::Hand(h) => format!(in heap; "hand {h}"),
-        Source::Cell(a, side) => {
-            let side = side_text(side);
-            format!(in heap; "{side} of {a}")
-        }
-    }
-}
-
-fn pair_text(heap: Global, left: Field, right: Field) -> Result<String, AllocError>
-    ensures { IfOk result (λ t. string_bytes t ≡ pair_text left right) }
-{
-    let left = field_text(heap, left)?;
-    let right = field_text(heap, right)?;
-    format!(in heap; "pair {left} {right}")
-}
 
 fn leaf_text(heap: Global, value: &str, word: u64) -> Result<String, AllocError>
     ensures { IfOk result (λ t. string_bytes t ≡ leaf_text value.now word) }
@@ -74,21 +17,13 @@ fn leaf_text(heap: Global, value: &str, word: u64) -> Result<String, AllocError>
     Ok(text)
 }
 
-fn moved_text(heap: Global, forward: Reference, source: Source) -> Result<String, AllocError>
-    ensures { IfOk result (λ t. string_bytes t ≡ moved_text forward source) }
-{
-    let forward = reference_text(heap, forward)?;
-    let source = source_text(heap, source)?;
-    format!(in heap; "moved {forward} from {source}")
-}
-
 // A cell in words.
 pub fn cell_text<V: TypedLeaf>(heap: Global, c: Cell<V>) -> Result<String, AllocError>
     ensures { IfOk result (λ t. CellText V.lawful V.word V.shows c (string_bytes t)) }
 {
     match c {
         Cell::Blank => String::from_str(heap, "blank"),
-        Cell::Pair { left, right } => pair_text(heap, left, right),
+        Cell::Pair { left, right } => format!(in heap; "pair {left} {right}"),
         Cell::Leaf(v) => match v.to_word() {
             Some(word) => {
                 let value = v.show(heap)?;
@@ -96,7 +31,7 @@ pub fn cell_text<V: TypedLeaf>(heap: Global, c: Cell<V>) -> Result<String, Alloc
             }
             None => String::from_str(heap, "blank"),
         },
-        Cell::Moved { forward, source } => moved_text(heap, forward, source),
+        Cell::Moved { forward, source } => format!(in heap; "moved {forward} from {source}"),
     }
 }
 
