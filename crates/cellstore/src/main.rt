@@ -6,12 +6,8 @@ use std::env;
 use std::process::ExitCode;
 
 fn run(rt: &HostRuntime) -> Result<(), Ended> {
-    let Ok(words) = env::args(rt) else {
-        return Err(Ended::Wrong);
-    };
-    let Ok(args) = words.collect::<Vec<String>>(rt.alloc()) else {
-        return Err(Ended::Wrong);
-    };
+    let words = env::args(rt).map_err(|_| Ended::Wrong)?;
+    let args: Vec<String> = words.collect(rt.alloc())?;
     commands::run(rt, args.as_slice())
 }
 

@@ -16,23 +16,16 @@ fn say_difference<V: TypedLeaf>(rt: &HostRuntime, a: &[u8], b: &[u8]) -> Result<
 pub fn report<V: TypedLeaf>(rt: &HostRuntime, a_name: &str, b_name: &str) -> Result<(), Ended> {
     let a = named_image::<V>(rt, a_name)?;
     let b = named_image::<V>(rt, b_name)?;
-    match same::<V>(a.as_slice(), b.as_slice()) {
-        Ok(true) => {
-            let _ = rt.println("same");
-            Ok(())
-        }
-        Ok(false) => {
-            let _ = say_difference::<V>(rt, a.as_slice(), b.as_slice());
-            Err(Ended::Different)
-        }
-        Err(_) => Err(Ended::Wrong),
+    if same::<V>(a.as_slice(), b.as_slice())? {
+        let _ = rt.println("same");
+        return Ok(());
     }
+    let _ = say_difference::<V>(rt, a.as_slice(), b.as_slice());
+    Err(Ended::Different)
 }
 
 // An image, or a refusal that names the file.
 fn named_image<V: TypedLeaf>(rt: &HostRuntime, name: &str) -> Result<Vec<u8>, Ended> {
-    let Ok(before) = format!(in rt.alloc(); "{name}: ") else {
-        return Err(Ended::Wrong);
-    };
+    let before = format!(in rt.alloc(); "{name}: ")?;
     read_image::<V>(rt, name, before.as_str())
 }

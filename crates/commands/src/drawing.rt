@@ -64,10 +64,7 @@ fn draw<V: TypedLeaf>(rt: &HostRuntime, image: &[u8]) -> Result<(), AllocError> 
     let shared = shared_cells::<V>(image, u16::MAX);
     let _ = rt.println("digraph image {");
     draw_hands(rt, image)?;
-    for at in 0..=u16::MAX {
-        let Some(cell) = cell_of::<V>(image, at) else {
-            break;
-        };
+    for (at, cell) in (0..=u16::MAX).map_while(|at| Some((at, cell_of::<V>(image, at)?))) {
         draw_cell(rt, at, cell, shared.has(at))?;
     }
     let _ = rt.println("}");
@@ -76,8 +73,6 @@ fn draw<V: TypedLeaf>(rt: &HostRuntime, image: &[u8]) -> Result<(), AllocError> 
 
 pub fn show<V: TypedLeaf>(rt: &HostRuntime, name: &str) -> Result<(), Ended> {
     let image = read_image::<V>(rt, name, "")?;
-    match draw::<V>(rt, image.as_slice()) {
-        Ok(()) => Ok(()),
-        Err(_) => Err(Ended::Wrong),
-    }
+    draw::<V>(rt, image.as_slice())?;
+    Ok(())
 }

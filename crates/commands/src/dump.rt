@@ -10,10 +10,7 @@ use texts::typed::TypedLeaf;
 // Prints each cell that has an address of sixteen bits.
 fn print_cells<V: TypedLeaf, B: Bank<V>>(rt: &HostRuntime, bank: &B) -> Result<Tally, AllocError> {
     let mut tally = Tally::NONE;
-    for at in 0..=u16::MAX {
-        let Some(cell) = bank.read(at) else {
-            break;
-        };
+    for (at, cell) in (0..=u16::MAX).map_while(|at| Some((at, bank.read(at)?))) {
         let text = cell_text(rt.alloc(), cell)?;
         let line = cell_line(rt.alloc(), at, text.as_str())?;
         let _ = rt.println(line);
@@ -30,12 +27,8 @@ pub fn report<V: TypedLeaf>(rt: &HostRuntime, name: &str) -> Result<(), Ended> {
     }
     let left_over = bytes.len() % 9;
     let bank = PackedBank::new(bytes.as_mut_slice());
-    let Ok(tally) = print_cells::<V, PackedBank>(rt, &bank) else {
-        return Err(Ended::Wrong);
-    };
-    let Ok(line) = tally.line(rt.alloc(), left_over) else {
-        return Err(Ended::Wrong);
-    };
+    let tally = print_cells::<V, PackedBank>(rt, &bank)?;
+    let line = tally.line(rt.alloc(), left_over)?;
     let _ = rt.println(line);
     Ok(())
 }

@@ -3,16 +3,17 @@ use crate::Ended;
 use cells::causes::Cause;
 use cells::leaves::LeafKind;
 use images::diagnose;
+use std::fmt::Display;
 use std::fs;
 
+// Says why a file cannot be used.
+pub fn unusable<W: Display>(rt: &HostRuntime, name: &str, why: &W) -> Ended {
+    let _ = eprintln!(rt; "cellstore: {name}: {why}");
+    Ended::Wrong
+}
+
 pub fn read_bytes(rt: &HostRuntime, name: &str) -> Result<Vec<u8>, Ended> {
-    match fs::read(rt, name) {
-        Ok(bytes) => Ok(bytes),
-        Err(e) => {
-            let _ = eprintln!(rt; "cellstore: {name}: {e}");
-            Err(Ended::Wrong)
-        }
-    }
+    fs::read(rt, name).map_err(|e| unusable(rt, name, &e))
 }
 
 // The bytes of a file that is an image of the kind. Of any other it says, after `before`, which rule is broken first.

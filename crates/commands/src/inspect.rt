@@ -2,7 +2,7 @@
 use crate::Ended;
 use crate::files::read_image;
 use cells::Field;
-use dumps::{Tally, cell_text, field_text};
+use dumps::{Tally, cell_text};
 use images::{cell_of, hand_of};
 use reports::counts::{hands_in_use, tally_of};
 use std::alloc::AllocError;
@@ -22,19 +22,15 @@ pub fn check<V: TypedLeaf>(rt: &HostRuntime, name: &str) -> Result<(), Ended> {
     Ok(())
 }
 
-fn show_hands(rt: &HostRuntime, image: &[u8]) -> Result<(), AllocError> {
+fn show_hands(rt: &HostRuntime, image: &[u8]) {
     for i in 0..16u8 {
-        let text = field_text(rt.alloc(), hand_of(image, i).unwrap_or(Field::Nil))?;
-        let _ = println!(rt; "hand {i}: {text}");
+        let field = hand_of(image, i).unwrap_or(Field::Nil);
+        let _ = println!(rt; "hand {i}: {field}");
     }
-    Ok(())
 }
 
 fn show_cells<V: TypedLeaf>(rt: &HostRuntime, image: &[u8]) -> Result<(), AllocError> {
-    for at in 0..=u16::MAX {
-        let Some(cell) = cell_of::<V>(image, at) else {
-            break;
-        };
+    for (at, cell) in (0..=u16::MAX).map_while(|at| Some((at, cell_of::<V>(image, at)?))) {
         let text = cell_text(rt.alloc(), cell)?;
         let _ = println!(rt; "cell {at}: {text}");
     }
@@ -44,9 +40,7 @@ fn show_cells<V: TypedLeaf>(rt: &HostRuntime, image: &[u8]) -> Result<(), AllocE
 // Prints the hands and the cells of an image.
 pub fn show<V: TypedLeaf>(rt: &HostRuntime, name: &str) -> Result<(), Ended> {
     let image = read_image::<V>(rt, name, "")?;
-    if show_hands(rt, image.as_slice()).is_ok() && show_cells::<V>(rt, image.as_slice()).is_ok() {
-        Ok(())
-    } else {
-        Err(Ended::Wrong)
-    }
+    show_hands(rt, image.as_slice());
+    show_cells::<V>(rt, image.as_slice())?;
+    Ok(())
 }

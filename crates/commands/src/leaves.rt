@@ -1,36 +1,32 @@
 // Lists of leaf values: what each line holds, and whether two lists hold the same values.
 use crate::Ended;
+use crate::files::unusable;
 use std::fs;
-use texts::lists::{Entry, ListFault, entry_line, first_difference, read_list, verdict_line};
+use texts::lists::{
+    Entry, ListFault, NamedList, entry_line, first_difference, read_list, verdict_line,
+};
 use texts::typed::TypedLeaf;
 
-fn read_file<V: TypedLeaf>(rt: &HostRuntime, name: &str) -> Result<Vec<Entry<V>>, Ended> {
-    let text = match fs::read_to_string(rt, name) {
-        Ok(text) => text,
-        Err(e) => {
-            let _ = eprintln!(rt; "cellstore: {name}: {e}");
-            return Err(Ended::Wrong);
-        }
+// Says why a file is no list.
+fn no_list<V: TypedLeaf>(rt: &HostRuntime, name: &str, fault: ListFault) -> Ended {
+    let wanted = V::wanted();
+    let _ = match fault {
+        ListFault::Unreadable(line) => eprintln!(rt;
+            "cellstore: {name}: line {line}: wanted {wanted}"
+        ),
+        ListFault::Memory => eprintln!(rt; "cellstore: {name}: out of memory"),
     };
-    match read_list::<V>(rt.alloc(), text.as_str()) {
-        Ok(list) => Ok(list),
-        Err(ListFault::Unreadable(line)) => {
-            let wanted = V::wanted();
-            let _ = eprintln!(rt; "cellstore: {name}: line {line}: wanted {wanted}");
-            Err(Ended::Wrong)
-        }
-        Err(ListFault::Memory) => {
-            let _ = eprintln!(rt; "cellstore: {name}: out of memory");
-            Err(Ended::Wrong)
-        }
-    }
+    Ended::Wrong
+}
+
+fn read_file<V: TypedLeaf>(rt: &HostRuntime, name: &str) -> Result<Vec<Entry<V>>, Ended> {
+    let text = fs::read_to_string(rt, name).map_err(|e| unusable(rt, name, &e))?;
+    read_list(rt.alloc(), text.as_str()).map_err(|fault| no_list::<V>(rt, name, fault))
 }
 
 fn print_list<V: TypedLeaf>(rt: &HostRuntime, list: &[Entry<V>]) -> Result<(), Ended> {
     for entry in list {
-        let Ok(line) = entry_line(rt.alloc(), *entry) else {
-            return Err(Ended::Wrong);
-        };
+        let line = entry_line(rt.alloc(), *entry)?;
         let _ = rt.println(line);
     }
     Ok(())
@@ -48,24 +44,29 @@ pub fn compare<V: TypedLeaf>(rt: &HostRuntime, a_name: &str, b_name: &str) -> Re
     let b = read_file::<V>(rt, b_name)?;
     print_list(rt, a.as_slice())?;
     print_list(rt, b.as_slice())?;
-    print_verdict(rt, a_name, a.as_slice(), b_name, b.as_slice())
+    print_verdict(
+        rt,
+        NamedList {
+            name: a_name,
+            entries: a.as_slice(),
+        },
+        NamedList {
+            name: b_name,
+            entries: b.as_slice(),
+        },
+    )
 }
 
 fn print_verdict<V: TypedLeaf>(
     rt: &HostRuntime,
-    a_name: &str,
-    a: &[Entry<V>],
-    b_name: &str,
-    b: &[Entry<V>],
+    a: NamedList<V>,
+    b: NamedList<V>,
 ) -> Result<(), Ended> {
-    let apart = first_difference(a, b);
-    let Ok(line) = verdict_line(rt.alloc(), a_name, a, b_name, b, apart) else {
-        return Err(Ended::Wrong);
-    };
+    let apart = first_difference(a.entries, b.entries);
+    let line = verdict_line(rt.alloc(), a, b, apart)?;
     let _ = rt.println(line);
-    if apart.is_some() {
-        Err(Ended::Different)
-    } else {
-        Ok(())
+    match apart {
+        None => Ok(()),
+        Some(_) => Err(Ended::Different),
     }
 }

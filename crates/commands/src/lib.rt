@@ -8,9 +8,11 @@ mod files;
 mod inspect;
 mod leaves;
 
+use cells::causes::Cause;
 use kinds::instructions::Instruction;
 use kinds::points::Point;
 use reports::requests::{Kind, Request, Task, asked_for};
+use std::alloc::AllocError;
 use texts::typed::TypedLeaf;
 
 const USAGE: &str = "usage: cellstore COMMAND KIND FILE..    (KIND is point or instruction)
@@ -27,6 +29,18 @@ pub enum Ended {
     Different,
 }
 
+impl From<AllocError> for Ended {
+    fn from(_e: AllocError) -> Ended {
+        Ended::Wrong
+    }
+}
+
+impl From<Cause> for Ended {
+    fn from(_cause: Cause) -> Ended {
+        Ended::Wrong
+    }
+}
+
 fn usage(rt: &HostRuntime) -> Ended {
     let _ = rt.eprintln(USAGE);
     Ended::Wrong
@@ -34,10 +48,7 @@ fn usage(rt: &HostRuntime) -> Ended {
 
 // A word of the command, empty past the last.
 fn word(args: &[String], i: usize) -> &str {
-    match args.get(i) {
-        Some(word) => word.as_str(),
-        None => "",
-    }
+    args.get(i).map_or("", |word| word.as_str())
 }
 
 // One task on files of one leaf kind.

@@ -3,7 +3,8 @@ use Rattle.std.specs.Prelude.{◌≡◌, ℕ, ◌<◌, Bool, List, ◌++◌, Som
 use Rattle.cells.specs.declared.Cell.{Cell}
 use Rattle.images.specs.Layout.{or_nil}
 use Rattle.images.specs.Images.{hand_of, cell_of}
-use Rattle.dumps.specs.Shown.{field_text, CellText}
+use Rattle.cells.specs.Shown.{field_text}
+use Rattle.dumps.specs.Shown.{CellText}
 use Rattle.reports.specs.declared.apart.Difference.{Difference}
 use Rattle.reports.specs.declared.apart.Difference.TheVariants.{Hand, Cell as At}
 

@@ -3,12 +3,12 @@ ghost use Rattle.std.specs.Prelude.{◌≡◌, true, IfOk, string_bytes, Decides
 ghost use Rattle.cells.specs.Banks.{leaf_lawful, found_lawful};
 ghost use Rattle.images.specs.Images.{hand_of, cell_of};
 ghost use Rattle.images.specs.Layout.{or_nil};
-ghost use Rattle.dumps.specs.Shown.{field_text};
+ghost use Rattle.cells.specs.Shown.{field_text};
 ghost use Rattle.reports.specs.Apart.{FirstApart, Differs, FoundText, hand_line, cell_line, DifferenceLine};
 
 use cells::leaves::LeafKind;
 use cells::{Cell, Field};
-use dumps::{cell_text, field_text};
+use dumps::cell_text;
 use images::{cell_of, hand_of};
 use std::alloc::{AllocError, Global};
 use texts::typed::TypedLeaf;
@@ -109,17 +109,8 @@ fn found_text<V: TypedLeaf>(heap: Global, found: Option<Cell<V>>) -> Result<Stri
     }
 }
 
-fn hand_text(heap: Global, found: Option<Field>) -> Result<String, AllocError>
-    ensures { IfOk result (λ t. string_bytes t ≡ field_text (or_nil found)) }
-{
-    match found {
-        Some(field) => field_text(heap, field),
-        None => field_text(heap, Field::Nil),
-    }
-}
-
-fn hand_line(heap: Global, i: u8, x: &str, y: &str) -> Result<String, AllocError>
-    ensures { IfOk result (λ t. string_bytes t ≡ hand_line i x.now y.now) }
+fn hand_line(heap: Global, i: u8, x: Field, y: Field) -> Result<String, AllocError>
+    ensures { IfOk result (λ t. string_bytes t ≡ hand_line i (field_text x) (field_text y)) }
 {
     format!(in heap; "different: hand {i} is {x} in the first and {y} in the second")
 }
@@ -141,9 +132,9 @@ pub fn difference_line<V: TypedLeaf>(
 {
     match difference {
         Difference::Hand(i) => {
-            let x = hand_text(heap, hand_of(a, i))?;
-            let y = hand_text(heap, hand_of(b, i))?;
-            hand_line(heap, i, x.as_str(), y.as_str())
+            let x = hand_of(a, i).unwrap_or(Field::Nil);
+            let y = hand_of(b, i).unwrap_or(Field::Nil);
+            hand_line(heap, i, x, y)
         }
         Difference::Cell(at) => {
             let x = found_text(heap, cell_of::<V>(a, at))?;
