@@ -10,6 +10,7 @@ mod tests {
     use cells::{Cell, Field, Reference, Side, Source, Tag};
     use kinds::instructions::Instruction;
     use kinds::points::Point;
+    use std::fmt::Debug;
     use std::process::Abort;
 
     const POINT: Point = Point {
@@ -56,46 +57,33 @@ mod tests {
         }
     }
 
-    // Leaves are compared by their words: a leaf kind has no equality of its own.
-    fn is_same<V: LeafKind>(a: Option<Cell<V>>, b: &Cell<V>) -> bool {
-        match (a, *b) {
-            (Some(Cell::Blank), Cell::Blank) => true,
-            (Some(Cell::Pair { left, right }), Cell::Pair { left: l, right: r }) => left == l
-                && right == r,
-            (Some(Cell::Leaf(v)), Cell::Leaf(w)) => v.to_word() == w.to_word(),
-            (
-                Some(Cell::Moved { forward, source }),
-                Cell::Moved {
-                    forward: f,
-                    source: s,
-                },
-            ) => forward == f && source == s,
-            _ => false,
-        }
-    }
-
     // A blank bank of four cells.
-    fn behaves<V: LeafKind, B: Bank<V>>(rt: &impl Abort, bank: &mut B, good: V, bad: V) {
-        assert!(rt; bank.size() == 4);
-        assert!(rt; is_same(bank.read(0), &Cell::Blank));
+    fn behaves<V: LeafKind + PartialEq + Debug, B: Bank<V>>(
+        rt: &impl Abort,
+        bank: &mut B,
+        good: V,
+        bad: V,
+    ) {
+        assert_eq!(rt; bank.size(), 4);
+        assert_eq!(rt; bank.read(0), Some(Cell::Blank));
         assert!(rt; bank.put(0, &pair()));
         assert!(rt; bank.put(1, &moved()));
         assert!(rt; bank.put(3, &Cell::Leaf(good)));
-        assert!(rt; is_same(bank.read(0), &pair()));
-        assert!(rt; is_same(bank.read(1), &moved()));
-        assert!(rt; is_same(bank.read(2), &Cell::Blank));
-        assert!(rt; is_same(bank.read(3), &Cell::Leaf(good)));
+        assert_eq!(rt; bank.read(0), Some(pair()));
+        assert_eq!(rt; bank.read(1), Some(moved()));
+        assert_eq!(rt; bank.read(2), Some(Cell::Blank));
+        assert_eq!(rt; bank.read(3), Some(Cell::Leaf(good)));
         refuses(rt, bank, bad);
-        assert!(rt; is_same(bank.read(3), &Cell::Leaf(good)));
+        assert_eq!(rt; bank.read(3), Some(Cell::Leaf(good)));
     }
 
     // What is refused alters nothing.
-    fn refuses<V: LeafKind, B: Bank<V>>(rt: &impl Abort, bank: &mut B, bad: V) {
+    fn refuses<V: LeafKind + PartialEq + Debug, B: Bank<V>>(rt: &impl Abort, bank: &mut B, bad: V) {
         assert!(rt; !bank.put(4, &pair()));
         assert!(rt; !bank.put(65_535, &pair()));
         assert!(rt; !bank.put(0, &Cell::Blank));
         assert!(rt; !bank.put(3, &Cell::Leaf(bad)));
-        assert!(rt; is_same(bank.read(0), &pair()));
+        assert_eq!(rt; bank.read(0), Some(pair()));
         assert!(rt; bank.read(4).is_none());
         assert!(rt; bank.read(65_535).is_none());
     }
@@ -139,8 +127,8 @@ mod tests {
     fn unlawful_lent_leaf_is_blank(rt: HostRuntime) {
         let mut lent = [Cell::Leaf(NO_POINT), Cell::Leaf(POINT)];
         let bank = OpenBank::new(&mut lent);
-        assert!(rt; is_same(bank.read(0), &Cell::Blank));
-        assert!(rt; is_same(bank.read(1), &Cell::Leaf(POINT)));
+        assert_eq!(rt; bank.read(0), Some(Cell::Blank));
+        assert_eq!(rt; bank.read(1), Some(Cell::Leaf(POINT)));
     }
 
     #[test]

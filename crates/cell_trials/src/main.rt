@@ -10,25 +10,20 @@ use kinds::points::Point;
 use packing::{pack_cell, unpack_cell};
 use std::alloc::{AllocError, Global};
 use std::fs;
-use texts::hex::push_hex;
+use texts::hex::{digit_value, push_hex};
 use texts::typed::TypedLeaf;
-
-fn nibble(digit: u8) -> Option<u8> {
-    match digit {
-        b'0'..=b'9' => Some(digit - b'0'),
-        b'A'..=b'F' => Some(digit - b'A' + 10),
-        _ => None,
-    }
-}
 
 // Nine bytes in hexadecimal.
 fn nine_bytes(text: &str) -> Option<[u8; 9]> {
-    let digits = text.as_bytes();
+    let digits = text.as_bytes().first_chunk::<18>()?;
     let mut bytes = [0u8; 9];
-    for i in 0..9usize {
-        let high = nibble(*digits.get(2 * i)?)?;
-        let low = nibble(*digits.get(2 * i + 1)?)?;
-        bytes[i] = high.wrapping_mul(16).wrapping_add(low);
+    for (byte, pair) in bytes.iter_mut().zip(digits.chunks_exact(2)) {
+        let [high, low] = pair else {
+            return None;
+        };
+        *byte = digit_value(*high)?
+            .wrapping_mul(16)
+            .wrapping_add(digit_value(*low)?);
     }
     Some(bytes)
 }

@@ -13,6 +13,7 @@ mod tests {
     use images::writing::write;
     use kinds::instructions::Instruction;
     use kinds::points::Point;
+    use std::fmt::Debug;
     use std::process::Abort;
     use std::test::Fail;
     use store::turns::Happening;
@@ -48,27 +49,8 @@ mod tests {
         }
     }
 
-    fn is_bare_pair<V: LeafKind, B: Bank<V>>(bank: &B, at: u16) -> bool {
-        match bank.read(at) {
-            Some(
-                Cell::Pair {
-                    left: Field::Nil,
-                    right: Field::Nil,
-                },
-            ) => true,
-            _ => false,
-        }
-    }
-
-    fn is_refused<T: Drop>(answer: Result<T, Cause>, cause: Cause) -> bool {
-        match answer {
-            Ok(_) => false,
-            Err(c) => c == cause,
-        }
-    }
-
     // A bank of three cells: the image takes two, and the third is kept. What is opened is written as it was.
-    fn comes_back<V: LeafKind, B: Bank<V>>(
+    fn comes_back<V: LeafKind + PartialEq + Debug, B: Bank<V>>(
         rt: &impl Abort,
         bank: &mut B,
         image: &[u8; 86],
@@ -76,46 +58,64 @@ mod tests {
         assert!(rt; bank.put(2, &bare_pair()));
         let record = open::<V, B>(bank, image)?;
         assert!(rt; record.size() == 3 && record.mark() == 2);
-        assert!(rt; is_bare_pair::<V, B>(bank, 2));
+        assert_eq!(rt; bank.read(2), Some(bare_pair()));
         let mut bytes = [0xEEu8; 90];
-        assert!(rt; write::<V, B>(&record, bank, &mut bytes)? == 86);
+        assert_eq!(rt; write::<V, B>(&record, bank, &mut bytes)?, 86);
         assert!(rt; bytes[0..86] == image[0..86]);
         assert!(rt; bytes[86..90] == [0xEEu8; 4]);
         Ok(())
     }
 
     // Each later refusal comes before the one above it, and none writes a byte.
-    fn write_refuses<V: LeafKind, B: Bank<V>>(
+    fn write_refuses<V: LeafKind + PartialEq + Debug, B: Bank<V>>(
         rt: &impl Abort,
         bank: &mut B,
         image: &[u8; 86],
     ) -> Result<(), Fail> {
         let mut record = open::<V, B>(bank, image)?;
         let mut short = [0xEEu8; 85];
-        assert!(rt; is_refused(write::<V, B>(&record, bank, &mut short), Cause::TooFewBytes));
+        assert_eq!(rt;
+            write::<V, B>(&record, bank, &mut short),
+            Err(Cause::TooFewBytes)
+        );
         record.advance(Happening::Edited)?;
-        assert!(rt; is_refused(write::<V, B>(&record, bank, &mut short), Cause::NotSettled));
+        assert_eq!(rt;
+            write::<V, B>(&record, bank, &mut short),
+            Err(Cause::NotSettled)
+        );
         assert!(rt; bank.put(1, &moved()));
-        assert!(rt; is_refused(write::<V, B>(&record, bank, &mut short), Cause::Spoiled));
+        assert_eq!(rt;
+            write::<V, B>(&record, bank, &mut short),
+            Err(Cause::Spoiled)
+        );
         record.advance(Happening::Begun)?;
-        assert!(rt; is_refused(write::<V, B>(&record, bank, &mut short), Cause::Collecting));
+        assert_eq!(rt;
+            write::<V, B>(&record, bank, &mut short),
+            Err(Cause::Collecting)
+        );
         assert!(rt; short == [0xEEu8; 85]);
         Ok(())
     }
 
     // A bank of one cell, which stays as it was.
-    fn open_refuses<V: LeafKind, B: Bank<V>>(
+    fn open_refuses<V: LeafKind + PartialEq + Debug, B: Bank<V>>(
         rt: &impl Abort,
         bank: &mut B,
         image: &[u8; 86],
         other: &[u8; 86],
     ) {
         assert!(rt; bank.put(0, &bare_pair()));
-        assert!(rt; is_refused(open::<V, B>(bank, image), Cause::NoRoom));
-        assert!(rt; is_refused(open::<V, B>(bank, other), Cause::NotAnImage));
-        assert!(rt; is_refused(open::<V, B>(bank, &image[0..85]), Cause::NotAnImage));
-        assert!(rt; is_refused(open::<V, B>(bank, &image[0..3]), Cause::NotAnImage));
-        assert!(rt; is_bare_pair::<V, B>(bank, 0));
+        assert_eq!(rt; open::<V, B>(bank, image).err(), Some(Cause::NoRoom));
+        assert_eq!(rt; open::<V, B>(bank, other).err(), Some(Cause::NotAnImage));
+        assert_eq!(rt;
+            open::<V, B>(bank, &image[0..85]).err(),
+            Some(Cause::NotAnImage)
+        );
+        assert_eq!(rt;
+            open::<V, B>(bank, &image[0..3]).err(),
+            Some(Cause::NotAnImage)
+        );
+        assert_eq!(rt; bank.read(0), Some(bare_pair()));
     }
 
     #[test]
@@ -184,11 +184,9 @@ mod tests {
         let record = open(&mut OpenBank::new(&mut lent), &sample(1))?;
         let mut more: [Cell<Point>; 3] = [Cell::Blank; 3];
         let mut bytes = [0u8; 0];
-        assert!(rt;
-            is_refused(
-                write(&record, &OpenBank::new(&mut more), &mut bytes),
-                Cause::OtherSize,
-            )
+        assert_eq!(rt;
+            write(&record, &OpenBank::new(&mut more), &mut bytes),
+            Err(Cause::OtherSize)
         );
         Ok(())
     }
@@ -196,18 +194,14 @@ mod tests {
     #[test]
     fn sizes_that_no_store_has(rt: HostRuntime) {
         let mut few = [0u8; 8];
-        assert!(rt;
-            is_refused(
-                open::<Point, PackedBank>(&mut PackedBank::new(&mut few), &sample(2)),
-                Cause::SizeOutOfRange,
-            )
+        assert_eq!(rt;
+            open::<Point, PackedBank>(&mut PackedBank::new(&mut few), &sample(2)).err(),
+            Some(Cause::SizeOutOfRange)
         );
         let mut many = [0u8; 294_921];
-        assert!(rt;
-            is_refused(
-                open::<Point, PackedBank>(&mut PackedBank::new(&mut many), &sample(1)),
-                Cause::SizeOutOfRange,
-            )
+        assert_eq!(rt;
+            open::<Point, PackedBank>(&mut PackedBank::new(&mut many), &sample(1)).err(),
+            Some(Cause::SizeOutOfRange)
         );
     }
 }

@@ -1,77 +1,46 @@
 // Tries the check of images on lists of cases. A case is a line: the leaf kind, the expected answer, the bytes in hexadecimal.
 #![tactic(auto)]
 
+use anyhow::{Result, bail};
 use cells::Cell;
 use cells::leaves::LeafKind;
 use images::{cell_of, check, diagnose, hand_of, same};
 use kinds::instructions::Instruction;
 use kinds::points::Point;
-use std::alloc::{AllocError, AllocFailed, Global};
+use std::alloc::Global;
 use std::process::ExitCode;
 use std::{env, fs};
-
-// Why the program ends with status 1.
-#[derive(Debug, Drop)]
-pub enum Ended {
-    Wrong,
-}
-
-impl From<anyhow::Error> for Ended {
-    fn from(_e: anyhow::Error) -> Ended {
-        Ended::Wrong
-    }
-}
-
-impl From<AllocError> for Ended {
-    fn from(_e: AllocError) -> Ended {
-        Ended::Wrong
-    }
-}
-
-impl<T: Drop> From<AllocFailed<T>> for Ended {
-    fn from(_e: AllocFailed<T>) -> Ended {
-        Ended::Wrong
-    }
-}
-
-fn digit(c: u8) -> u8 {
-    match c {
-        b'0'..=b'9' => c - b'0',
-        b'A'..=b'F' => c - b'A' + 10,
-        _ => 0,
-    }
-}
+use texts::hex::digit_value;
 
 // The bytes of a text in hexadecimal.
-fn bytes_of(heap: Global, text: &str) -> Result<Vec<u8>, Ended> {
+fn bytes_of(heap: Global, text: &str) -> Result<Vec<u8>> {
     let mut bytes = Vec::new(heap);
     for pair in text.as_bytes().chunks_exact(2) {
-        let [a, b] = pair else {
-            return Err(Ended::Wrong);
+        let [high, low] = pair else {
+            bail!("an odd digit");
         };
-        bytes.push((digit(*a) % 16) * 16 + digit(*b) % 16)?;
+        let high = digit_value(*high).unwrap_or(0);
+        let low = digit_value(*low).unwrap_or(0);
+        bytes.push(high.wrapping_mul(16).wrapping_add(low))?;
     }
     Ok(bytes)
 }
 
 // Whether each hand and each of the cells of an image can be read, and no more cells than these.
 fn reads<V: LeafKind>(image: &[u8], count: u16) -> bool {
-    for i in 0..16 {
-        if hand_of(image, i).is_none() {
-            return false;
-        }
-    }
-    for j in 0..count {
-        match cell_of::<V>(image, j) {
-            Some(Cell::Pair { .. }) | Some(Cell::Leaf(_)) => {}
-            _ => return false,
-        }
-    }
-    hand_of(image, 16).is_none() && cell_of::<V>(image, count).is_none()
+    (0..16).all(|i| hand_of(image, i).is_some())
+        && (0..count).all(|j| {
+            matches!(
+                cell_of::<V>(image, j),
+                Some(Cell::Pair { .. } | Cell::Leaf(_))
+            )
+        })
+        && hand_of(image, 16).is_none()
+        && cell_of::<V>(image, count).is_none()
 }
 
 // The answer to a case, and what is wrong with the bytes.
-fn answer<V: LeafKind>(heap: Global, image: &[u8]) -> Result<(String, String), Ended> {
+fn answer<V: LeafKind>(heap: Global, image: &[u8]) -> Result<(String, String)> {
     match check::<V>(image) {
         Ok(count) => {
             let whole = reads::<V>(image, count);
@@ -94,17 +63,17 @@ fn answer<V: LeafKind>(heap: Global, image: &[u8]) -> Result<(String, String), E
 }
 
 // Prints the answer to a case, and says whether it is the expected one.
-fn trial(rt: &HostRuntime, n: usize, line: &str) -> Result<bool, Ended> {
+fn trial(rt: &HostRuntime, n: usize, line: &str) -> Result<bool> {
     let heap = rt.alloc();
     let words: Vec<&str> = line.split_whitespace().collect(heap)?;
     let [kind, expected, text] = words.as_slice() else {
-        return Err(Ended::Wrong);
+        bail!("line {n} is no case");
     };
     let bytes = bytes_of(heap, text)?;
     let (got, why) = match *kind {
         "point" => answer::<Point>(heap, bytes.as_slice())?,
         "instruction" => answer::<Instruction>(heap, bytes.as_slice())?,
-        _ => return Err(Ended::Wrong),
+        _ => bail!("line {n} has no leaf kind"),
     };
     let agrees = got.as_str() == *expected;
     let mark = if agrees { "" } else { ", NOT AS EXPECTED" };
@@ -112,13 +81,11 @@ fn trial(rt: &HostRuntime, n: usize, line: &str) -> Result<bool, Ended> {
     Ok(agrees)
 }
 
-fn run(rt: &HostRuntime, name: &str) -> Result<(), Ended> {
-    let Ok(text) = fs::read_to_string(rt, name) else {
-        return Err(Ended::Wrong);
-    };
+fn run(rt: &HostRuntime, name: &str) -> Result<()> {
+    let text = fs::read_to_string(rt, name)?;
     let mut agreed: usize = 0;
     let mut tried: usize = 0;
-    for line in text.as_str().lines() {
+    for line in text.lines() {
         tried = tried.saturating_add(1);
         if trial(rt, tried, line)? {
             agreed = agreed.saturating_add(1);
@@ -128,15 +95,10 @@ fn run(rt: &HostRuntime, name: &str) -> Result<(), Ended> {
     Ok(())
 }
 
-fn run_all(rt: &HostRuntime) -> Result<(), Ended> {
-    let Ok(words) = env::args(rt) else {
-        return Err(Ended::Wrong);
-    };
-    let Ok(args) = words.collect::<Vec<String>>(rt.alloc()) else {
-        return Err(Ended::Wrong);
-    };
+fn run_all(rt: &HostRuntime) -> Result<()> {
+    let args: Vec<String> = env::args(rt)?.collect(rt.alloc())?;
     let [_, names @ ..] = args.as_slice() else {
-        return Err(Ended::Wrong);
+        bail!("the program has no name");
     };
     for name in names {
         run(rt, name.as_str())?;

@@ -1,7 +1,6 @@
 // Runs cases with known answers through the reading of leaf values: `KIND | VALUE as typed | refused 6 or its word`.
 #![tactic(auto)]
 
-use cells::causes::Cause;
 use cells::leaves::LeafKind;
 use kinds::instructions::Instruction;
 use kinds::points::Point;
@@ -13,9 +12,8 @@ use texts::typed::TypedLeaf;
 
 // What a typed value comes to, in the words of the cases.
 fn answer<V: TypedLeaf>(heap: Global, text: &str) -> Result<String, AllocError> {
-    let entries = match read_list::<V>(heap, text) {
-        Ok(entries) => entries,
-        Err(_) => return String::from_str(heap, "unreadable"),
+    let Ok(entries) = read_list::<V>(heap, text) else {
+        return String::from_str(heap, "unreadable");
     };
     match entries.first() {
         Some(entry) => answer_of(heap, *entry),
@@ -31,7 +29,7 @@ fn answer_of<V: TypedLeaf>(heap: Global, entry: Entry<V>) -> Result<String, Allo
             Ok(out)
         }
         Err(cause) => {
-            let number = Cause::number(cause);
+            let number = cause.number();
             format!(in heap; "refused {number}")
         }
     }

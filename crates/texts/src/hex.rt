@@ -1,5 +1,5 @@
 // Numbers in hexadecimal, in upper case, with a fixed count of digits.
-ghost use Rattle.std.specs.Prelude.{◌≡◌, ◌%◌, ◌++◌, string_bytes, OnOk};
+ghost use Rattle.std.specs.Prelude.{◌≡◌, ℕ, ◌%◌, ◌<◌, ◌↔◌, ◌++◌, Some, IfSome, string_bytes, OnOk};
 ghost use Rattle.texts.specs.Hex.{hex_digit, hex};
 
 use std::alloc::AllocError;
@@ -12,6 +12,18 @@ fn hex_digit(n: u8) -> char
         char::from(b'0' + d)
     } else {
         char::from(b'A' + (d - 10))
+    }
+}
+
+// What a digit stands for, and none of any other character.
+pub fn digit_value(digit: u8) -> Option<u8>
+    ensures small { IfSome result (λ n. n < 16) }
+    ensures back { (n : ℕ) → n < 16 → (result ≡ Some n) ↔ (hex_digit n ≡ digit) }
+{
+    match digit {
+        b'0'..=b'9' => Some(digit - b'0'),
+        b'A'..=b'F' => Some(digit - b'A' + 10),
+        _ => None,
     }
 }
 
