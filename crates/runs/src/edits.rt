@@ -9,26 +9,7 @@ use crate::scripts::{Answer, Edit};
 use cells::banks::Bank;
 use cells::causes::Cause;
 use cells::leaves::LeafKind;
-use store::Sight;
 use store::record::Record;
-
-fn done<V: LeafKind>(made: Result<(), Cause>) -> Result<Answer<V>, Cause>
-    ensures { said_by result ≡ saying answered (told made) }
-{
-    match made {
-        Ok(()) => Ok(Answer::Done),
-        Err(cause) => Err(cause),
-    }
-}
-
-fn shown<V: LeafKind>(sight: Result<Sight<V>, Cause>) -> Result<Answer<V>, Cause>
-    ensures { said_by result ≡ saying answered (seen sight) }
-{
-    match sight {
-        Ok(sight) => Ok(Answer::Seen(sight)),
-        Err(cause) => Err(cause),
-    }
-}
 
 // Makes a call on the store and its working bank.
 pub fn edit<V: LeafKind, W: Bank<V>>(
@@ -40,13 +21,14 @@ pub fn edit<V: LeafKind, W: Bank<V>>(
     ensures rooted { W.root working.new ≡ W.root working.old }
 {
     match call {
-        Edit::Pair { h } => done(store.pair(working, h)),
-        Edit::Leaf { h, value } => done(store.leaf(working, h, value)),
-        Edit::Copy { h, g } => done(store.copy(working, h, g)),
-        Edit::Load { h, g, side } => done(store.load(working, h, g, side)),
-        Edit::Store { g, side, h } => done(store.store(working, g, side, h)),
-        Edit::Swap { g, side, h } => done(store.swap(working, g, side, h)),
-        Edit::Clear { h } => done(store.clear(working, h)),
-        Edit::Look { h } => shown(store.look(working, h)),
+        Edit::Pair { h } => store.pair(working, h)?,
+        Edit::Leaf { h, value } => store.leaf(working, h, value)?,
+        Edit::Copy { h, g } => store.copy(working, h, g)?,
+        Edit::Load { h, g, side } => store.load(working, h, g, side)?,
+        Edit::Store { g, side, h } => store.store(working, g, side, h)?,
+        Edit::Swap { g, side, h } => store.swap(working, g, side, h)?,
+        Edit::Clear { h } => store.clear(working, h)?,
+        Edit::Look { h } => return Ok(Answer::Seen(store.look(working, h)?)),
     }
+    Ok(Answer::Done)
 }

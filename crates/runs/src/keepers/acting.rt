@@ -83,10 +83,7 @@ impl Keeper {
         let Some(ticket) = &self.ticket else {
             return Err(idle_cause(&self.store, old.size(), new.size()));
         };
-        match slice(ticket, &mut self.store, old, new, budget) {
-            Ok(steps) => Ok(Answer::Stepped(steps)),
-            Err(cause) => Err(cause),
-        }
+        Ok(Answer::Stepped(slice(ticket, &mut self.store, old, new, budget)?))
     }
 
     pub fn finish<V: LeafKind, O: Bank<V>, N: Bank<V>>(
