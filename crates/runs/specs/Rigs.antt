@@ -7,10 +7,11 @@ use Rattle.store.specs.Model.{Model, is_collecting}
 use Rattle.store.specs.Calls.{size_cause}
 use Rattle.store.specs.Record.{view}
 use Rattle.collector.specs.Collections.{Banks}
+use Rattle.collector.specs.Visits.{banks_at}
 use Rattle.runs.specs.declared.keepers.Keeper.{Keeper}
 use Rattle.runs.specs.declared.rigs.Rig.{Rig}
 use Rattle.runs.specs.Worlds.{world_beside}
-use Rattle.runs.specs.Scripts.{exchanged_if}
+use Rattle.runs.specs.Slots.{slot_cells}
 
 abbrev pub kept_by : Result Keeper Cause → Result Model Cause
 kept_by (Ok k) = Ok (view k.store)
@@ -18,7 +19,7 @@ kept_by (Err c) = Err c
 
 -- the record and the banks in use, by what the cells of each bank are: the working or old one, and the other one
 abbrev pub banks_of : {V A B : Type 0} → (A → List (Cell V)) → (B → List (Cell V)) → Rig A B → Banks V
-banks_of f g r = exchanged_if r.turned (view r.keeper.store) (f r.first) (g r.second)
+banks_of f g r = banks_at (view r.keeper.store) (slot_cells f g r.working) (slot_cells f g r.spare)
 
 -- the banks in use have the store's size
 pub record Fits {V : Type 0} (b : Banks V) : Type 0 where

@@ -9,6 +9,7 @@ mod keepers;
 pub mod replays;
 pub mod rigs;
 pub mod scripts;
+mod slots;
 
 use cells::leaves::LeafKind;
 

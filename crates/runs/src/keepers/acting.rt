@@ -1,5 +1,5 @@
 // The calls on a record and its ticket.
-ghost use Rattle.std.specs.Prelude.{◌≡◌, List, length, is_ok};
+ghost use Rattle.std.specs.Prelude.{◌≡◌, true, false, List, length, is_ok, is_some};
 ghost use Rattle.cells.specs.declared.Cell.{Cell};
 ghost use Rattle.store.specs.Record.{view, made};
 ghost use Rattle.collector.specs.Collections.{begin, slice, finish, abandon};
@@ -16,10 +16,22 @@ use cells::banks::Bank;
 use cells::causes::Cause;
 use cells::leaves::LeafKind;
 use collector::calls::{abandon, begin, finish, slice};
+use collector::tickets::Ticket;
 use images::opening::open;
 use images::writing::write;
 use std::mem::replace;
 use store::record::Record;
+
+// A ticket cannot be let fall, so that it is kept only where there is none.
+fn keep(place: &mut Option<Ticket>, ticket: Ticket)
+    requires { is_some place.old ≡ false }
+    ensures { is_some place.new ≡ true }
+{
+    match replace(place, Some(ticket)) {
+        None => {}
+        Some(_) => unreachable(),
+    }
+}
 
 impl Keeper {
     pub fn new(size: usize) -> Result<Keeper, Cause>
@@ -50,10 +62,8 @@ impl Keeper {
         ensures { Acts (begin (N.cells spare.now)) (banks_at (view self.old.store) (O.cells working.now) (N.cells spare.now)) result (banks_at (view self.new.store) (O.cells working.now) (N.cells spare.now)) }
     {
         let ticket = begin(&mut self.store, working, spare)?;
-        match replace(&mut self.ticket, Some(ticket)) {
-            None => Ok(Answer::Ready),
-            Some(_) => unreachable(),
-        }
+        keep(&mut self.ticket, ticket);
+        Ok(Answer::Ready)
     }
 }
 
@@ -100,10 +110,10 @@ impl Keeper {
         };
         match finish(ticket, &mut self.store, old, new) {
             Ok((kept, marks)) => Ok(Answer::Kept { kept, marks }),
-            Err((cause, ticket)) => match replace(&mut self.ticket, Some(ticket)) {
-                None => Err(cause),
-                Some(_) => unreachable(),
-            },
+            Err((cause, ticket)) => {
+                keep(&mut self.ticket, ticket);
+                Err(cause)
+            }
         }
     }
 
@@ -115,10 +125,10 @@ impl Keeper {
         };
         match abandon(ticket, &mut self.store, old) {
             Ok(()) => Ok(Answer::Ready),
-            Err((cause, ticket)) => match replace(&mut self.ticket, Some(ticket)) {
-                None => Err(cause),
-                Some(_) => unreachable(),
-            },
+            Err((cause, ticket)) => {
+                keep(&mut self.ticket, ticket);
+                Err(cause)
+            }
         }
     }
 

@@ -12,10 +12,12 @@ ghost use Rattle.runs.specs.Rigs.{banks_of, Fits, Started, Replaced};
 use crate::keepers::Keeper;
 use crate::rigs::Rig;
 use crate::scripts::{Answer, Call};
+use crate::slots::Slot;
 use cells::Cell;
 use cells::banks::Bank;
 use cells::causes::Cause;
 use cells::leaves::LeafKind;
+use std::mem::swap;
 use store::record::Record;
 
 // Whether a call exchanged the banks: Finish does, where it is accepted.
@@ -56,9 +58,8 @@ impl<A, B> Rig<A, B> {
         let keeper = Keeper::new(first.size())?;
         Ok(Rig {
             keeper,
-            first,
-            second,
-            turned: false,
+            working: Slot::First(first),
+            spare: Slot::Second(second),
         })
     }
 
@@ -81,13 +82,9 @@ impl<A, B> Rig<A, B> {
         B: Bank<V>,
         ensures made { Made V.tidied call (banks_of A.cells B.cells self.old) result (banks_of A.cells B.cells self.new) }
     {
-        let answer = if self.turned {
-            make(&mut self.keeper, &mut self.second, &mut self.first, call)
-        } else {
-            make(&mut self.keeper, &mut self.first, &mut self.second, call)
-        };
+        let answer = make(&mut self.keeper, &mut self.working, &mut self.spare, call);
         if has_exchanged(&call, &answer) {
-            self.turned = !self.turned;
+            swap(&mut self.working, &mut self.spare);
         }
         answer
     }
@@ -109,11 +106,7 @@ impl<A, B> Rig<A, B> {
         B: Bank<V>,
         ensures { Replaced (Opened V.lawful V.word V.taken V.number image.now) (banks_of A.cells B.cells self.old) result (banks_of A.cells B.cells self.new) }
     {
-        if self.turned {
-            self.keeper.open::<V, B>(&mut self.second, image)
-        } else {
-            self.keeper.open::<V, A>(&mut self.first, image)
-        }
+        self.keeper.open(&mut self.working, image)
     }
 
     // Writes the image of the store to the front of the bytes, and answers its length.
@@ -124,11 +117,7 @@ impl<A, B> Rig<A, B> {
         ensures answer { result ≡ write_answer (banks_of A.cells B.cells self.now).model (banks_of A.cells B.cells self.now).cells (length bytes.old) }
         ensures after { bytes.new ≡ bytes_after V.lawful V.word V.number (banks_of A.cells B.cells self.now).model (banks_of A.cells B.cells self.now).cells bytes.old }
     {
-        if self.turned {
-            self.keeper.write::<V, B>(&self.second, bytes)
-        } else {
-            self.keeper.write::<V, A>(&self.first, bytes)
-        }
+        self.keeper.write(&self.working, bytes)
     }
 
     pub fn store(&self) -> &Record
@@ -144,11 +133,7 @@ impl<A, B> Rig<A, B> {
         B: Bank<V>,
         ensures { result ≡ cell_at (banks_of A.cells B.cells self.now).cells at }
     {
-        if self.turned {
-            self.second.read(at)
-        } else {
-            self.first.read(at)
-        }
+        self.working.read(at)
     }
 
     // The same of the other bank, which is the new one while the store collects.
@@ -158,11 +143,7 @@ impl<A, B> Rig<A, B> {
         B: Bank<V>,
         ensures { result ≡ cell_at (banks_of A.cells B.cells self.now).fresh at }
     {
-        if self.turned {
-            self.first.read(at)
-        } else {
-            self.second.read(at)
-        }
+        self.spare.read(at)
     }
 
     // Gives the store up; a collection that is under way is abandoned.
@@ -174,14 +155,10 @@ impl<A, B> Rig<A, B> {
     {
         let Rig {
             keeper,
-            first,
-            second,
-            turned,
+            working,
+            spare,
         } = self;
-        if turned {
-            keeper.end::<V, B>(&second);
-        } else {
-            keeper.end::<V, A>(&first);
-        }
+        keeper.end(&working);
+        drop(spare);
     }
 }

@@ -23,4 +23,4 @@ pub invariant_of-self-in-Err : goal.invariant_of-self-in-Err
 invariant_of-self-in-Err g c =
     let olds = g.O.Bank.cells c.args.old.now in
     let same = abandon_refused (banks_at (view c.args.self.now.store) olds []) (banks_at (view c.abandon.new.store) olds []) c.in-Err.cause (c.in-Err.ensures []) in
-    record { held = ap is_some c.replace-in-Err.ensures.after ∙ sym (ap is_some (sym c.replace.ensures.value ∙ c.in-Some.is)) ∙ c.args.self.now.held ∙ sym same }
+    record { held = c.keep.ensures ∙ sym (ap is_some (sym c.replace.ensures.value ∙ c.in-Some.is)) ∙ c.args.self.now.held ∙ sym same }
