@@ -1,5 +1,6 @@
 // Whole scripts.
 ghost use Rattle.std.specs.Prelude.{◌≡◌, ◌+◌, ◌≤◌, ◌++◌, map, length, Ok, Err, vec_len, vec_capacity};
+ghost use Rattle.runs.specs.declared.replays.Unplayed.TheVariants.{Refused, Memory};
 ghost use Rattle.runs.specs.Law.{LawBesideAnySpare};
 ghost use Rattle.runs.specs.Worlds.{run};
 ghost use Rattle.runs.specs.Scripts.{said_by, events_of, answers_of};
@@ -11,7 +12,7 @@ use crate::scripts::{Answer, Call};
 use cells::banks::Bank;
 use cells::causes::Cause;
 use cells::leaves::LeafKind;
-use std::alloc::Global;
+use std::alloc::{AllocError, Global};
 
 // Makes the calls of a script one after the other, and adds their answers to those that are there.
 fn play<V: LeafKind, A: Bank<V>, B: Bank<V>>(
@@ -37,6 +38,22 @@ pub enum Unplayed {
     Memory,
 }
 
+impl From<Cause> for Unplayed {
+    ghost from_gives = { λ cause why. why ≡ Refused cause };
+
+    fn from(cause: Cause) -> Unplayed {
+        Unplayed::Refused(cause)
+    }
+}
+
+impl From<AllocError> for Unplayed {
+    ghost from_gives = { λ _ why. why ≡ Memory };
+
+    fn from(_e: AllocError) -> Unplayed {
+        Unplayed::Memory
+    }
+}
+
 // Makes a whole script on a new store over the first bank, with the second beside it, and hands the store over with the answers.
 pub fn replay<V: LeafKind, A: Bank<V> + Drop, B: Bank<V> + Drop>(
     heap: Global,
@@ -48,14 +65,8 @@ pub fn replay<V: LeafKind, A: Bank<V> + Drop, B: Bank<V> + Drop>(
     ensures fits { elim result [ Ok p ↦ Fits (banks_of A.cells B.cells p.0) | Err e ↦ Unit {0} ] }
     ensures law { LawBesideAnySpare V.tidied V.alike }
 {
-    let Ok(mut answers) = Vec::with_capacity(heap, script.len()) else {
-        return Err(Unplayed::Memory);
-    };
-    match Rig::new(first, second) {
-        Ok(mut rig) => {
-            play(&mut rig, script, &mut answers);
-            Ok((rig, answers))
-        }
-        Err(cause) => Err(Unplayed::Refused(cause)),
-    }
+    let mut answers = Vec::with_capacity(heap, script.len())?;
+    let mut rig = Rig::new(first, second)?;
+    play(&mut rig, script, &mut answers);
+    Ok((rig, answers))
 }
