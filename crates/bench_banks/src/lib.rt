@@ -70,23 +70,18 @@ fn cell_sum(c: &Cell<Point>) -> u64 {
 }
 
 fn put_all<B: Bank<Point>>(bank: &mut B) -> u64 {
-    let mut count: u64 = 0;
-    for turn in 0..32_768u16 {
-        if bank.put(address(turn), &made_cell(turn)) {
-            count = count.wrapping_add(1);
-        }
-    }
-    count
+    (0..32_768u16)
+        .filter(|turn| bank.put(address(*turn), &made_cell(*turn)))
+        .count() as u64
 }
 
 fn read_all<B: Bank<Point>>(bank: &B) -> u64 {
-    let mut sum: u64 = 0;
-    for turn in 0..32_768u16 {
-        if let Some(cell) = bank.read(address(turn)) {
-            sum = sum.wrapping_mul(31).wrapping_add(cell_sum(&cell));
-        }
-    }
-    sum
+    (0..32_768u16)
+        .filter_map(|turn| bank.read(address(turn)))
+        .fold(
+            0,
+            |sum: u64, cell| sum.wrapping_mul(31).wrapping_add(cell_sum(&cell)),
+        )
 }
 
 // How many of 32768 puts were answered yes.
