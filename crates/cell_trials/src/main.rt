@@ -9,9 +9,9 @@ use kinds::instructions::Instruction;
 use kinds::points::Point;
 use packing::{pack_cell, unpack_cell};
 use std::alloc::{AllocError, Global};
-use std::fs;
 use texts::hex::{digit_value, push_hex};
 use texts::typed::TypedLeaf;
+use trials::try_cases;
 
 // Nine bytes in hexadecimal.
 fn nine_bytes(text: &str) -> Option<[u8; 9]> {
@@ -75,22 +75,6 @@ fn holds(heap: Global, line: &str) -> Result<bool, AllocError> {
     }
 }
 
-fn run(rt: &HostRuntime) -> anyhow::Result<()> {
-    let text = fs::read_to_string(rt, "cases.txt")?;
-    let mut right = 0u32;
-    let mut wrong = 0u32;
-    for line in text.lines() {
-        if holds(rt.alloc(), line)? {
-            right = right.saturating_add(1);
-        } else {
-            wrong = wrong.saturating_add(1);
-            println!(rt; "wrong: {line}")?;
-        }
-    }
-    println!(rt; "{right} cases right, {wrong} wrong")?;
-    Ok(())
-}
-
 fn main(rt: HostRuntime) -> anyhow::Result<()> {
-    run(&rt)
+    try_cases(&rt, "cases.txt", holds)
 }

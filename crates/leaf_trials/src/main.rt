@@ -5,10 +5,10 @@ use cells::leaves::LeafKind;
 use kinds::instructions::Instruction;
 use kinds::points::Point;
 use std::alloc::{AllocError, Global};
-use std::fs;
 use texts::hex::push_hex;
 use texts::lists::{Entry, read_list};
 use texts::typed::TypedLeaf;
+use trials::try_cases;
 
 // What a typed value comes to, in the words of the cases.
 fn answer<V: TypedLeaf>(heap: Global, text: &str) -> Result<String, AllocError> {
@@ -51,22 +51,6 @@ fn holds(heap: Global, line: &str) -> Result<bool, AllocError> {
     Ok(got.as_str() == expected.trim())
 }
 
-fn run(rt: &HostRuntime) -> anyhow::Result<()> {
-    let text = fs::read_to_string(rt, "cases.txt")?;
-    let mut right = 0u32;
-    let mut wrong = 0u32;
-    for line in text.lines() {
-        if holds(rt.alloc(), line)? {
-            right = right.saturating_add(1);
-        } else {
-            wrong = wrong.saturating_add(1);
-            println!(rt; "wrong: {line}")?;
-        }
-    }
-    println!(rt; "{right} cases right, {wrong} wrong")?;
-    Ok(())
-}
-
 fn main(rt: HostRuntime) -> anyhow::Result<()> {
-    run(&rt)
+    try_cases(&rt, "cases.txt", holds)
 }
