@@ -1,5 +1,6 @@
 -- From what the code of a call asked and did to what the call means.
-use Rattle.std.proofs.Common.{◌≡◌, ℕ, ◌<◌, ◌≤◌, Bool, true, false, cond, not, ◌||◌, eqb, ltb, List, [], ◌∷◌, length, get_or, set, is_some, Some, None, Ok, Err, Option, Result, unwrap_or, sym, refl, ap, ◌∙◌, subst, arith}
+use Rattle.std.proofs.Common.{◌≡◌, ℕ, ◌<◌, ◌≤◌, Bool, true, false, cond, not, ◌||◌, eqb, ltb, List, [], ◌∷◌, length, get_or, set, is_some, Some, None, Ok, Err, Option, Result, unwrap_or, sym, refl, ap, ◌∙◌, subst, arith, ◌≢◌, get_or-set_other}
+use borrow.Author.Tests.{eqb-false}
 use Rattle.std.proofs.lemmas.Bool.{cond-true, cond-false}
 use Rattle.std.proofs.lemmas.Bool.Decides.{nat_tests}
 use Rattle.std.specs.Option.{ok_or}
@@ -21,7 +22,7 @@ use Rattle.store.specs.Calls.{Call, pair, leaf, copy, load, store, swap, clear, 
 use Rattle.store.specs.declared.Mode.TheVariants.{Working}
 use Rattle.store.specs.declared.Sight.TheVariants.{Nothing}
 use Rattle.store.specs.Bounds.{hands_below}
-use Rattle.store.specs.Record.{hand_put, field_let_go}
+use Rattle.store.specs.Record.{field_let_go}
 use Rattle.store.specs.Called.{Called, told, state_at}
 use Rattle.store.specs.Parts.{admitted, target_in, target_of, side_in, with_in, changed, place_answer, placed_state}
 use Rattle.store.proofs.Taking.{put_set, held_at}
@@ -159,9 +160,6 @@ pub sticky_held : (m : Model) (size g : ℕ) (f : Field) → hands_below m.size 
 sticky_held m size g f held is same =
     ap (λ n. past n f) same ∙ ap (past m.size) is ∙ sticky_inside m.size (hand_of m g) (held_at m.size m.hands g held)
 
-pub put_size : (m m' : Model) (g : ℕ) (f : Field) → m' ≡ hand_put m g f → m'.size ≡ m.size
-put_size m m' g f e = ap (λ x. x.size) e ∙ grind (arith, nat_tests)
-
 pub neither : (a b : Bool) → a ≡ false → b ≡ false → (a || b) ≡ false
 neither a b p q = grind (arith, nat_tests)
 
@@ -185,20 +183,22 @@ module _ {V : Type 0} (tidied : V → Option V) (m : Model) (cells : List (Cell 
 -- ---- what the code of each call leaves
 
 module _ {V : Type 0} (lawful : V → Bool) (tidied : V → Option V) (m : Model) (cells : List (Cell V)) where
-  pub clears : (m₁ m₂ : Model) (h : ℕ) → m₁ ≡ field_let_go m (hand_of m h) → m₂ ≡ changed m₁ h Nil → state_at m₂ cells ≡ effect tidied (state_at m cells) (clear h)
+  pub clears : (m₁ : Model) (h : ℕ) → m₁ ≡ changed (field_let_go m (hand_of m h)) h Nil → state_at m₁ cells ≡ effect tidied (state_at m cells) (clear h)
   unfolding effect
-  clears m₁ m₂ h e₁ e₂ = ap (λ x. state_at x cells) (e₂ ∙ ap (λ x. changed x h Nil) e₁)
+  clears m₁ h e = ap (λ x. state_at x cells) e
 
   pub copies_itself : (h g : ℕ) → eqb h g ≡ true → state_at (record { size = m.size; mark = m.mark; hands = m.hands; free = m.free; mode = Working }) cells ≡ effect tidied (state_at m cells) (copy h g)
   unfolding effect
   copies_itself h g same = ap (λ x. state_at x cells) (sym (cond-true (eqb h g) _ _ same))
 
-  pub copies : (m₁ m₂ m₃ : Model) (h g : ℕ) → eqb h g ≡ false → past m.size (made_sticky (hand_of m g)) ≡ false → m₁ ≡ hand_put m g (made_sticky (hand_of m g)) → m₂ ≡ field_let_go m₁ (hand_of m h)
-      → m₃ ≡ changed m₂ h (made_sticky (hand_of m g)) → state_at m₃ cells ≡ effect tidied (state_at m cells) (copy h g)
+  pub copies : (m₁ m₂ : Model) (h g : ℕ) → eqb h g ≡ false → m₁ ≡ changed m g (made_sticky (hand_of m g)) → m₂ ≡ changed (field_let_go m₁ (hand_of m₁ h)) h (made_sticky (hand_of m g))
+      → state_at m₂ cells ≡ effect tidied (state_at m cells) (copy h g)
   unfolding effect
-  copies m₁ m₂ m₃ h g other inside e₁ e₂ e₃ =
+  copies m₁ m₂ h g other e₁ e₂ =
       let f = made_sticky (hand_of m g) in
-      ap (λ x. state_at x cells) (e₃ ∙ ap (λ x. changed x h f) (e₂ ∙ ap (λ x. field_let_go x (hand_of m h)) (e₁ ∙ cond-false (past m.size f) _ _ inside)) ∙ sym (cond-false (eqb h g) _ _ other))
+      let apart : h ≢ g = λ e. eqb-false h g other e in
+      let still : hand_of m₁ h ≡ hand_of m h = ap (λ x. hand_of x h) e₁ ∙ get_or-set_other m.hands g h f Nil apart in
+      ap (λ x. state_at x cells) (e₂ ∙ ap (λ x. changed (field_let_go m₁ x) h f) still ∙ ap (λ x. changed (field_let_go x (hand_of m h)) h f) e₁ ∙ sym (cond-false (eqb h g) _ _ other))
 
   stored_with : (t : Target) (s : Side) (f : Field) → storable lawful (with_in s f t) ≡ true
   stored_with t Left f = refl
@@ -211,12 +211,12 @@ module _ {V : Type 0} (lawful : V → Bool) (tidied : V → Option V) (m : Model
       put ∙ put_set lawful cells t.address (with_in s f t) (stored_with t s f) ∙ ap (λ x. set cells x (with_in s f t)) (sym aim.address)
       ∙ ap (set cells (address_of (hand_of m g))) (sym (aimed_with t s f (get_or cells (address_of (hand_of m g)) Blank) aim.cell))
 
-  pub loads : (m₁ m₂ : Model) (cells' : List (Cell V)) (h g : ℕ) (s : Side) (t : Target) → Aimed m.mark cells (hand_of m g) t → cells' ≡ after_put lawful cells t.address (with_in s (made_sticky (side_in s t)) t)
-      → m₁ ≡ field_let_go m (hand_of m h) → m₂ ≡ changed m₁ h (made_sticky (side_in s t)) → state_at m₂ cells' ≡ effect tidied (state_at m cells) (load h g s)
+  pub loads : (m₁ : Model) (cells' : List (Cell V)) (h g : ℕ) (s : Side) (t : Target) → Aimed m.mark cells (hand_of m g) t → cells' ≡ after_put lawful cells t.address (with_in s (made_sticky (side_in s t)) t)
+      → m₁ ≡ changed (field_let_go m (hand_of m h)) h (made_sticky (side_in s t)) → state_at m₁ cells' ≡ effect tidied (state_at m cells) (load h g s)
   unfolding effect
-  loads m₁ m₂ cells' h g s t aim put e₁ e₂ =
+  loads m₁ cells' h g s t aim put e₁ =
       let f : field_at cells s (hand_of m g) ≡ side_in s t = aim.field s in
-      let model : m₂ ≡ changed (field_let_go m (hand_of m h)) h (made_sticky (field_at cells s (hand_of m g))) = e₂ ∙ ap (λ x. changed x h (made_sticky (side_in s t))) e₁ ∙ ap (λ x. changed (field_let_go m (hand_of m h)) h (made_sticky x)) (sym f) in
+      let model : m₁ ≡ changed (field_let_go m (hand_of m h)) h (made_sticky (field_at cells s (hand_of m g))) = e₁ ∙ ap (λ x. changed (field_let_go m (hand_of m h)) h (made_sticky x)) (sym f) in
       let there : cells' ≡ with_field (state_at m cells) g s (made_sticky (field_at cells s (hand_of m g))) = written cells' g s (made_sticky (side_in s t)) t aim put ∙ ap (λ x. with_field (state_at m cells) g s (made_sticky x)) (sym f) in
       ap (λ x. state_at x cells') model ∙ ap (state_at (changed (field_let_go m (hand_of m h)) h (made_sticky (field_at cells s (hand_of m g))))) there
 

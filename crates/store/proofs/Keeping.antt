@@ -1,5 +1,5 @@
 -- What a record holds stays inside the bank: hands that are set, addresses that are listed, and a top that is taken.
-use Rattle.std.proofs.Common.{◌≡◌, ℕ, zero, suc, ◌-◌, ◌<◌, ◌≤◌, Bool, true, false, List, [], ◌∷◌, ◌++◌, length, take, set, refl, ap, ◌∙◌, arith}
+use Rattle.std.proofs.Common.{◌≡◌, ℕ, zero, suc, ◌-◌, ◌<◌, ◌≤◌, true, false, List, [], ◌∷◌, ◌++◌, length, take, set, refl, ap, ◌∙◌, arith}
 use Rattle.std.proofs.lemmas.Bool.Decides.{nat_tests}
 use Rattle.cells.specs.declared.Field.{Field}
 use Rattle.store.specs.Fields.{past, below_top}
@@ -20,8 +20,8 @@ below_take n (suc k) [] all = refl
 below_take n (suc k) (x ∷ xs) all = grind (arith, nat_tests, below_take n k xs)
 
 -- the same by what the parts were before
-pub keeps_hands : (n : ℕ) (fs gs : List Field) (h : ℕ) (f : Field) (was : Bool) → gs ≡ set fs h f → hands_below n fs ≡ true → was ≡ past n f → (was ≡ true → ⊥) → hands_below n gs ≡ true
-keeps_hands n fs gs h f was e all p inside = ap (hands_below n) e ∙ held_set n fs h f all (grind (arith, nat_tests))
+pub keeps_hands : (n : ℕ) (fs gs : List Field) (h : ℕ) (f : Field) → gs ≡ set fs h f → hands_below n fs ≡ true → past n f ≡ false → hands_below n gs ≡ true
+keeps_hands n fs gs h f e all inside = ap (hands_below n) e ∙ held_set n fs h f all inside
 
 pub keeps_pushed : (n mark a : ℕ) (xs ys : List ℕ) → ys ≡ pushed a xs → listed_below n xs ≡ true → a < mark → mark ≤ n → listed_below n ys ≡ true
 keeps_pushed n mark a xs ys e all lt le = ap (listed_below n) e ∙ grind (arith, nat_tests, below_append n xs a)

@@ -4,9 +4,8 @@ ghost use Rattle.store.specs.Calls.{pair, leaf, copy, load, store, swap, clear, 
 ghost use Rattle.store.specs.Called.{Called, told, seen};
 ghost use Rattle.store.specs.Record.{view};
 
-use crate::record::Record;
-use crate::record::holding::{is_nil, is_past};
 use crate::record::placing::made_sticky;
+use crate::record::{Record, is_past};
 use crate::{Mode, Sight};
 use cells::banks::{Bank, cell_at};
 use cells::causes::Cause;
@@ -55,10 +54,8 @@ impl Record {
             return Ok(());
         }
         let field = made_sticky(self.hand(g));
-        let held = self.hand(h);
-        let _ = self.put_hand(g, field);
-        self.let_go(held);
-        self.change(h, field);
+        self.change(g, field);
+        self.replace(h, field);
         Ok(())
     }
 
@@ -81,9 +78,7 @@ impl Record {
         }
         let field = made_sticky(field);
         let _ = bank.put(target.address, &target.with(side, field));
-        let held = self.hand(h);
-        self.let_go(held);
-        self.change(h, field);
+        self.replace(h, field);
         Ok(())
     }
 
@@ -135,9 +130,7 @@ impl Record {
         ensures called { Called V.tidied (clear h) (view self.old) (B.cells bank.now) (told result) (view self.new) (B.cells bank.now) }
     {
         self.admit(bank.size(), h, h)?;
-        let held = self.hand(h);
-        self.let_go(held);
-        self.change(h, Field::Nil);
+        self.replace(h, Field::Nil);
         Ok(())
     }
 
@@ -154,8 +147,8 @@ impl Record {
         }
         match cell_at(bank, r.address) {
             Cell::Pair { left, right } => Ok(Sight::APair {
-                left_nil: is_nil(left),
-                right_nil: is_nil(right),
+                left_nil: left == Field::Nil,
+                right_nil: right == Field::Nil,
             }),
             Cell::Leaf(v) => Ok(Sight::ALeaf(v)),
             Cell::Blank | Cell::Moved { .. } => Err(Cause::Spoiled),

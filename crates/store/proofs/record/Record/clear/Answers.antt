@@ -1,10 +1,9 @@
-use Rattle.std.proofs.Common.{ltb, refl, ap, ◌∙◌}
+use Rattle.std.proofs.Common.{ltb, refl, ap}
 use Rattle.std.proofs.lemmas.Result.{err_from_is_err_and}
 use Rattle.store.specs.Calls.{clear}
 use Rattle.store.specs.Record.{view}
 use Rattle.store.specs.Called.{told}
 use Rattle.store.proofs.Calling.{turned_away, let_in, accepted, once, clears}
-use Rattle.store.specs.Record.{field_let_go}
 use Rattle.store.proofs.record.Record.clear.Goals as goal
 
 pub returns-in_err-admit : goal.returns-in_err-admit
@@ -20,5 +19,5 @@ returns g c =
     let cs = g.B.Bank.cells c.args.bank.now in
     let tidied = g.V.LeafKind.tidied in
     let in_order = let_in tidied m cs (clear c.args.h) c.args.h c.args.h c.size.result c.in_ok-admit.field-0 (once (ltb 15 c.args.h)) c.size.ensures c.in_ok-admit.ensures in
-    let leaves = clears g.V.LeafKind.lawful tidied m cs (view c.let_go.new.self) (view c.change.new.self) c.args.h (c.let_go.ensures ∙ ap (field_let_go m) c.hand-held.ensures) c.change.ensures in
-    record { called = accepted tidied m cs (clear c.args.h) _ (view c.change.new.self) cs in_order refl leaves }
+    let leaves = clears g.V.LeafKind.lawful tidied m cs (view c.replace.new.self) c.args.h c.replace.ensures in
+    record { called = accepted tidied m cs (clear c.args.h) _ (view c.replace.new.self) cs in_order refl leaves }

@@ -5,9 +5,9 @@ use Rattle.store.specs.Record.{view}
 use Rattle.store.specs.Called.{told}
 use Rattle.store.specs.Model.{hand_of}
 use Rattle.store.specs.Fields.{made_sticky}
-use Rattle.store.specs.Record.{hand_put, field_let_go}
+use Rattle.store.specs.Record.{field_let_go}
 use Rattle.store.specs.Parts.{changed}
-use Rattle.store.proofs.Calling.{sticky_held, put_size, turned_away, let_in, accepted, copies, copies_itself}
+use Rattle.store.proofs.Calling.{sticky_held, turned_away, let_in, accepted, copies, copies_itself}
 use Rattle.store.proofs.record.Record.copy.Goals as goal
 
 pub returns-in_err-admit : goal.returns-in_err-admit
@@ -28,9 +28,12 @@ returns-then-h-g g c =
 pub change-requires : goal.change-requires
 change-requires g c =
     let m = view c.args.self.now in
-    let f = c.made_sticky-field.result in
-    let size = ap (λ x. x.size) c.let_go.ensures ∙ put_size m (view c.put_hand.new.self) c.args.g f c.put_hand.ensures.after in
-    sticky_held m c.let_go.new.self.size c.args.g f c.args.self.now.held (c.made_sticky-field.ensures ∙ ap made_sticky c.hand.ensures) size
+    sticky_held m m.size c.args.g c.made_sticky-field.result c.args.self.now.held (c.made_sticky-field.ensures ∙ ap made_sticky c.hand.ensures) refl
+
+pub replace-requires : goal.replace-requires
+replace-requires g c =
+    let m = view c.args.self.now in
+    sticky_held m c.change.new.self.size c.args.g c.made_sticky-field.result c.args.self.now.held (c.made_sticky-field.ensures ∙ ap made_sticky c.hand.ensures) (ap (λ x. x.size) c.change.ensures)
 
 pub returns : goal.returns
 returns g c =
@@ -39,7 +42,7 @@ returns g c =
     let tidied = g.V.LeafKind.tidied in
     let in_order = let_in tidied m cs (copy c.args.h c.args.g) c.args.h c.args.g c.size.result c.in_ok-admit.field-0 refl c.size.ensures c.in_ok-admit.ensures in
     let f : c.made_sticky-field.result ≡ made_sticky (hand_of m c.args.g) = c.made_sticky-field.ensures ∙ ap made_sticky c.hand.ensures in
-    let inside = sticky_held m m.size c.args.g (made_sticky (hand_of m c.args.g)) c.args.self.now.held refl refl in
-    let leaves = copies g.V.LeafKind.lawful tidied m cs (view c.put_hand.new.self) (view c.let_go.new.self) (view c.change.new.self) c.args.h c.args.g (ne_eqb c.args.h c.args.g c.if-h-g.false) inside
-    (c.put_hand.ensures.after ∙ ap (hand_put m c.args.g) f) (c.let_go.ensures ∙ ap (field_let_go (view c.put_hand.new.self)) c.hand-held.ensures) (c.change.ensures ∙ ap (changed (view c.let_go.new.self) c.args.h) f) in
-    record { called = accepted tidied m cs (copy c.args.h c.args.g) _ (view c.change.new.self) cs in_order refl leaves }
+    let m₁ = view c.change.new.self in
+    let leaves = copies g.V.LeafKind.lawful tidied m cs m₁ (view c.replace.new.self) c.args.h c.args.g (ne_eqb c.args.h c.args.g c.if-h-g.false)
+    (c.change.ensures ∙ ap (changed m c.args.g) f) (c.replace.ensures ∙ ap (changed (field_let_go m₁ (hand_of m₁ c.args.h)) c.args.h) f) in
+    record { called = accepted tidied m cs (copy c.args.h c.args.g) _ (view c.replace.new.self) cs in_order refl leaves }

@@ -52,6 +52,6 @@ returns g c =
     let cause = aims_well tidied m cs (load c.args.h c.args.g c.args.side) c.args.g (astray m.mark cs (hand_of m c.args.g) || past m.mark (field_at cs c.args.side (hand_of m c.args.g))) in_order t c.in_ok-target.ensures (neither _ _ aim.straight stays) in
     let f : c.made_sticky-field.result ≡ made_sticky (side_in c.args.side t) = c.made_sticky-field.ensures ∙ ap made_sticky c.side-field.ensures in
     let there = c.put.ensures.after ∙ ap (after_put g.V.LeafKind.lawful cs t.address) (c.with.ensures ∙ ap (λ x. with_in c.args.side x t) f) in
-    let leaves = loads g.V.LeafKind.lawful tidied m cs (view c.let_go.new.self) (view c.change.new.self) (g.B.Bank.cells c.put.new.self) c.args.h c.args.g c.args.side t aim there
-    (c.let_go.ensures ∙ ap (field_let_go m) c.hand-held.ensures) (c.change.ensures ∙ ap (changed (view c.let_go.new.self) c.args.h) f) in
-    record { called = accepted tidied m cs (load c.args.h c.args.g c.args.side) _ (view c.change.new.self) (g.B.Bank.cells c.put.new.self) cause refl leaves; rooted = c.put.ensures.rooted }
+    let leaves = loads g.V.LeafKind.lawful tidied m cs (view c.replace.new.self) (g.B.Bank.cells c.put.new.self) c.args.h c.args.g c.args.side t aim there
+    (c.replace.ensures ∙ ap (changed (field_let_go m (hand_of m c.args.h)) c.args.h) f) in
+    record { called = accepted tidied m cs (load c.args.h c.args.g c.args.side) _ (view c.replace.new.self) (g.B.Bank.cells c.put.new.self) cause refl leaves; rooted = c.put.ensures.rooted }

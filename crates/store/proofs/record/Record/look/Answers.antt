@@ -1,5 +1,6 @@
-use Rattle.std.proofs.Common.{ltb, sym, refl, ap, inl, inr}
+use Rattle.std.proofs.Common.{rules, ◌≡◌, ltb, sym, refl, ap, inl, inr}
 use Rattle.std.proofs.lemmas.Result.{err_from_is_err_and}
+use Rattle.store.specs.Fields.{is_nil}
 use Rattle.store.specs.Calls.{look}
 use Rattle.store.specs.Record.{view}
 use Rattle.store.specs.Called.{seen}
@@ -37,7 +38,9 @@ returns-in-Pair g c =
     let cs = g.B.Bank.cells c.args.bank.now in
     let tidied = g.V.LeafKind.tidied in
     let in_order = let_in tidied m cs (look c.args.h) c.args.h c.args.h c.size.result c.in_ok-admit.field-0 (once (ltb 15 c.args.h)) c.size.ensures c.in_ok-admit.ensures in
-    record { called = simp (c.is_nil.ensures, c.is_nil-in-Pair.ensures) (looks_at g.V.LeafKind.lawful tidied m cs c.args.h c.in-To.r (Pair c.in-Pair.left c.in-Pair.right) in_order (sym c.in-To.ensures) c.if-r-self.false c.in-Pair.ensures.found refl) }
+    let l : c.eq.result ≡ is_nil c.in-Pair.left = search rules in
+    let r : c.eq-in-Pair.result ≡ is_nil c.in-Pair.right = search rules in
+    record { called = simp (l, r) (looks_at g.V.LeafKind.lawful tidied m cs c.args.h c.in-To.r (Pair c.in-Pair.left c.in-Pair.right) in_order (sym c.in-To.ensures) c.if-r-self.false c.in-Pair.ensures.found refl) }
 
 pub returns-in-Leaf : goal.returns-in-Leaf
 returns-in-Leaf g c =
