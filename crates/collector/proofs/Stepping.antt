@@ -13,7 +13,7 @@ use Rattle.cells.specs.declared.Side.TheVariants.{Left, Right}
 use Rattle.cells.specs.declared.Source.{Source}
 use Rattle.cells.specs.declared.Source.TheVariants.{Nowhere, Hand, Cell as CellSide}
 use Rattle.cells.specs.declared.Cell.{Cell}
-use Rattle.cells.specs.declared.Cell.TheVariants.{Blank, Pair, Leaf, Moved}
+use Rattle.cells.specs.declared.Cell.TheVariants.{Blank, Moved}
 use Rattle.cells.specs.Banks.{storable, after_put}
 use Rattle.cells.specs.declared.causes.Cause.{Cause}
 use Rattle.cells.specs.declared.causes.Cause.TheVariants.{Spoiled}
@@ -28,10 +28,10 @@ use Rattle.store.specs.Fields.{unique, sticky, is_unique, with_side}
 use Rattle.store.specs.Calls.{unless}
 use Rattle.store.specs.Advances.{with_mode, bit, step_fits, advance_answer, advanced_model}
 use Rattle.store.proofs.Taking.{put_set}
-use Rattle.collector.specs.Steps.{Tour, hands_with, cells_with, source_at, place_from, source_good, is_pair, forward_spoiled, field_spoiled, step_spoiled, marked_old, passed, copied_over, taken_over, second_met, forwarded, met_field, stepped, finished}
+use Rattle.collector.specs.Steps.{Tour, hands_with, cells_with, source_at, place_from, source_good, forward_spoiled, field_spoiled, step_spoiled, marked_old, passed, copied_over, taken_over, second_met, forwarded, met_field, stepped}
 use Rattle.collector.specs.Collections.{Banks, tour_of, standing}
-use Rattle.collector.specs.Visits.{banks_at, cell_at_place, hands_at, cells_at, with_hands_at, place_fits, visitable, field_there, cell_since, Went, roomless, source_cell, outcome_of, stepped_banks}
-use Rattle.collector.specs.declared.steps.Outcome.TheVariants as outcome
+use Rattle.collector.specs.Places.{cell_at_place, hands_at, cells_at, with_hands_at, visitable, field_there, cell_since}
+use Rattle.collector.specs.Visits.{banks_at, Went, roomless}
 
 -- ---- places
 
@@ -88,7 +88,7 @@ own_side [] a s f = refl
 own_side (c ∷ cells) zero s f = refl
 own_side (c ∷ cells) (suc a) s f = own_side cells a s f
 
-pub since : {V : Type 0} (cells : List (Cell V)) (place : Source) (f : Field) (source : Source)
+since : {V : Type 0} (cells : List (Cell V)) (place : Source) (f : Field) (source : Source)
     → cell_since place (cell_at_place cells place) f source (cell_at_place cells source) ≡ cell_at_place (cells_at place f (cell_at_place cells place) cells) source
 since cells Nowhere f source = refl
 since cells (Hand h) f source = refl
@@ -99,26 +99,6 @@ since cells (CellSide a s) f (CellSide b t) = by (eqb a b) refl
     by : (x : Bool) → eqb a b ≡ x → cond (eqb a b) (with_side s f (get_or cells a Blank)) (get_or cells b Blank) ≡ get_or (set cells a (with_side s f (get_or cells a Blank))) b Blank
     by true e = cond-true (eqb a b) _ _ e ∙ sym (own_side cells a s f) ∙ ap (λ j. get_or (set cells a (with_side s f (get_or cells a Blank))) j Blank) (eqb-true a b e)
     by false e = let other : b ≢ a = λ q. eqb-false a b e (sym q) in cond-false (eqb a b) _ _ e ∙ sym (get_or-set_other cells a b (with_side s f (get_or cells a Blank)) Blank other)
-
-with_pair : {V : Type 0} (s : Side) (f : Field) (c : Cell V) → is_pair c ≡ true → is_pair (with_side s f c) ≡ true
-with_pair s f Blank is = is
-with_pair Left f (Pair l r) is = refl
-with_pair Right f (Pair l r) is = refl
-with_pair s f (Leaf v) is = is
-with_pair s f (Moved g o) is = is
-
--- what a source's cell is fits the source
-pub since_fits : {V : Type 0} (place source : Source) (visited cell : Cell V) (f : Field) → place_fits place visited ≡ true → place_fits source cell ≡ true → place_fits source (cell_since place visited f source cell) ≡ true
-since_fits Nowhere source visited cell f here there = there
-since_fits (Hand h) source visited cell f here there = there
-since_fits (CellSide a s) Nowhere visited cell f here there = there
-since_fits (CellSide a s) (Hand h) visited cell f here there = there
-since_fits (CellSide a s) (CellSide b t) visited cell f here there = let one = with_pair s f visited here in grind (arith, nat_tests)
-
-pub good_fits : {V : Type 0} (c : ℕ) (new : List (Cell V)) (source : Source) → source_good c new source ≡ true → place_fits source (cell_at_place new source) ≡ true
-good_fits c new Nowhere good = let no : ◌≡◌ {A = ℕ} 0 1 = cc in absurd (omega arith)
-good_fits c new (Hand h) good = good
-good_fits c new (CellSide a s) good = grind (arith, nat_tests)
 
 -- ---- a collection with s steps made, c cells copied and n marks, that has places left
 
@@ -280,10 +260,6 @@ found_ok false x y e = let no : ◌≡◌ {A = ℕ} 0 1 = cc in absurd (omega ar
 pub copied_inside : (size s c n : ℕ) (x : Mode) → counts_within size x ≡ true → x ≡ Collecting s c n → c ≤ size
 copied_inside size s c n x within is = let w : counts_within size (Collecting s c n) ≡ true = ap (counts_within size) (sym is) ∙ within in grind (arith, nat_tests)
 
--- a source that was found is good, and its cell is known
-pub source_found : {V : Type 0} (c : ℕ) (new : List (Cell V)) (source : Source) (cell : Cell V) → Ok cell ≡ source_cell c new source → (source_good c new source ≡ true) × (cell ≡ cell_at_place new source)
-source_found c new source cell h = found_ok (source_good c new source) (cell_at_place new source) cell h
-
 -- a UNIQUE forward to a copied cell is met again
 pub follows_again : {V : Type 0} (m : Model) (s c n : ℕ) (mode : m.mode ≡ Collecting s c n) (left : s < 16 + 2 * c) (old new : List (Cell V)) (met forward : Reference) (source : Source) (r : Result Unit Cause) (b' : Banks V)
     → forward.tag ≡ Unique → forward.address < c
@@ -344,32 +320,3 @@ module _ {V : Type 0} (m : Model) (s c n : ℕ) (mode : m.mode ≡ Collecting s 
   meets met r b' is w =
       let t = tour m s c n old new in
       went_alike m s c n mode left old new (λ t. field_spoiled t (To met)) step_spoiled (λ t. met_field t (To met)) stepped r b' (sym (spoils_there ∙ ap (field_spoiled t) is)) (sym (leads_there ∙ ap (met_field t) is)) w
-
--- ---- one more step
-
-abbrev told_spoiled : Bool → Result Unit Cause
-told_spoiled b = cond b (Err Spoiled) (Ok tt)
-
-told_fine : (b : Bool) (u : Unit {0}) → Ok u ≡ told_spoiled b → b ≡ false
-told_fine true u q = let no : ◌≡◌ {A = ℕ} 0 1 = cc in absurd (omega arith)
-told_fine false u q = refl
-
-told_spoiled_lem : (b : Bool) (e : Cause) → Err e ≡ told_spoiled b → b ≡ true
-told_spoiled_lem true e q = refl
-told_spoiled_lem false e q = let no : ◌≡◌ {A = ℕ} 0 1 = cc in absurd (omega arith)
-
-module _ {V : Type 0} (m : Model) (s c n : ℕ) (mode : m.mode ≡ Collecting s c n) (left : s < 16 + 2 * c) (old new : List (Cell V)) (b' : Banks V) where
-  going : finished (tour_of (banks_at m old new)) ≡ false
-  going = let lt : ltb s (16 + 2 * c) ≡ true = lt-ltb s (16 + 2 * c) left in ap finished (tour_is m s c n mode left old new) ∙ ap not lt
-
-  pub made_step : (u : Unit {0}) → Went step_spoiled stepped (banks_at m old new) (Ok u) b' → (outcome.Stepped ≡ outcome_of (tour_of (banks_at m old new))) × (b' ≡ stepped_banks (banks_at m old new))
-  made_step u w =
-      let b = banks_at m old new in
-      let fine = told_fine (step_spoiled (tour_of b)) u w.answer in
-      (sym (cond-false (finished (tour_of b)) _ _ going ∙ cond-false (step_spoiled (tour_of b)) _ _ fine), w.after ∙ sym (cond-false (finished (tour_of b)) _ _ going))
-
-  pub lost_step : (e : Cause) → Went step_spoiled stepped (banks_at m old new) (Err e) b' → (outcome.Spoiled ≡ outcome_of (tour_of (banks_at m old new))) × (b' ≡ stepped_banks (banks_at m old new))
-  lost_step e w =
-      let b = banks_at m old new in
-      let bad = told_spoiled_lem (step_spoiled (tour_of b)) e w.answer in
-      (sym (cond-false (finished (tour_of b)) _ _ going ∙ cond-true (step_spoiled (tour_of b)) _ _ bad), w.after ∙ sym (cond-false (finished (tour_of b)) _ _ going))
