@@ -1,5 +1,5 @@
 // What a store keeps beside its bank. Whatever a record holds lies inside the bank.
-ghost use Rattle.std.specs.Prelude.{◌≡◌, ◌≤◌, true, length, Ok, Err};
+ghost use Rattle.std.specs.Prelude.{◌≡◌, ◌<◌, ◌≤◌, true, false, length, IfSome, Ok, Err};
 ghost use Rattle.store.specs.Fields.{past};
 ghost use Rattle.store.specs.Bounds.{hands_below, listed_below, listed_at, counts_within, top_of};
 ghost use Rattle.store.specs.Calls.{unless, size_cause};
@@ -116,7 +116,8 @@ impl Record {
 
     // What a hand holds. There is nothing in a hand past the last.
     pub fn hand(&self, h: u16) -> Field
-        ensures { result ≡ hand_of (view self.now) h }
+        ensures value { result ≡ hand_of (view self.now) h }
+        ensures inside { past (view self.now).size result ≡ false }
     {
         self.hands.get(h as usize)
     }
@@ -152,6 +153,7 @@ impl Record {
     fn take_top(&mut self) -> Option<u16>
         ensures answer { result ≡ top_of (view self.old).free }
         ensures after { view self.new ≡ top_taken (view self.old) }
+        ensures inside { IfSome result (λ a. a < (view self.old).size) }
     {
         self.free.pop()
     }

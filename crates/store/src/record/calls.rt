@@ -14,11 +14,13 @@ use cells::{Cell, Field, Side};
 
 impl Record {
     // A new pair with two nil sides in hand h.
+    #[tactic(auto, unfolding(crate::specs::Calls::cause_of, crate::specs::Calls::effect))]
     pub fn pair<V: LeafKind, B: Bank<V>>(&mut self, bank: &mut B, h: u16) -> Result<(), Cause>
         ensures called { Called V.tidied (pair h) (view self.old) (B.cells bank.old) (told result) (view self.new) (B.cells bank.new) }
         ensures rooted { B.root bank.new ≡ B.root bank.old }
     {
         self.admit(bank.size(), h, h)?;
+        self.room(h)?;
         self.place(
             bank,
             h,
@@ -26,10 +28,12 @@ impl Record {
                 left: Field::Nil,
                 right: Field::Nil,
             },
-        )
+        );
+        Ok(())
     }
 
     // A new leaf with the tidied value in hand h.
+    #[tactic(auto, unfolding(crate::specs::Calls::cause_of, crate::specs::Calls::effect))]
     pub fn leaf<V: LeafKind, B: Bank<V>>(
         &mut self,
         bank: &mut B,
@@ -41,10 +45,13 @@ impl Record {
     {
         self.admit(bank.size(), h, h)?;
         let tidy = value.tidy()?;
-        self.place(bank, h, &Cell::Leaf(tidy))
+        self.room(h)?;
+        self.place(bank, h, &Cell::Leaf(tidy));
+        Ok(())
     }
 
     // Hand h gets what hand g holds, and both are STICKY then.
+    #[tactic(auto, unfolding(crate::specs::Calls::cause_of, crate::specs::Calls::effect))]
     pub fn copy<V: LeafKind, B: Bank<V>>(&mut self, bank: &B, h: u16, g: u16) -> Result<(), Cause>
         ensures called { Called V.tidied (copy h g) (view self.old) (B.cells bank.now) (told result) (view self.new) (B.cells bank.now) }
     {
@@ -60,6 +67,7 @@ impl Record {
     }
 
     // Hand h gets the field on a side of the pair that g refers to, and both are STICKY then.
+    #[tactic(auto, unfolding(crate::specs::Calls::cause_of, crate::specs::Calls::effect))]
     pub fn load<V: LeafKind, B: Bank<V>>(
         &mut self,
         bank: &mut B,
@@ -77,12 +85,13 @@ impl Record {
             return Err(Cause::Spoiled);
         }
         let field = made_sticky(field);
-        let _ = bank.put(target.address, &target.with(side, field));
+        target.put(bank, side, field);
         self.replace(h, field);
         Ok(())
     }
 
     // The side of the pair that g refers to gets what hand h holds, and both are STICKY then.
+    #[tactic(auto, unfolding(crate::specs::Calls::cause_of, crate::specs::Calls::effect))]
     pub fn store<V: LeafKind, B: Bank<V>>(
         &mut self,
         bank: &mut B,
@@ -97,12 +106,13 @@ impl Record {
         let target = self.target(bank, g)?;
         let field = made_sticky(self.hand(h));
         self.let_go(target.side(side));
-        let _ = bank.put(target.address, &target.with(side, field));
+        target.put(bank, side, field);
         self.change(h, field);
         Ok(())
     }
 
     // Hand h and the side of the pair that g refers to are exchanged, tags and all.
+    #[tactic(auto, unfolding(crate::specs::Calls::cause_of, crate::specs::Calls::effect))]
     pub fn swap<V: LeafKind, B: Bank<V>>(
         &mut self,
         bank: &mut B,
@@ -120,12 +130,13 @@ impl Record {
             return Err(Cause::Spoiled);
         }
         let held = self.hand(h);
-        let _ = bank.put(target.address, &target.with(side, held));
+        target.put(bank, side, held);
         self.change(h, field);
         Ok(())
     }
 
     // Hand h becomes nil.
+    #[tactic(auto, unfolding(crate::specs::Calls::cause_of, crate::specs::Calls::effect))]
     pub fn clear<V: LeafKind, B: Bank<V>>(&mut self, bank: &B, h: u16) -> Result<(), Cause>
         ensures called { Called V.tidied (clear h) (view self.old) (B.cells bank.now) (told result) (view self.new) (B.cells bank.now) }
     {
@@ -135,6 +146,7 @@ impl Record {
     }
 
     // What hand h shows.
+    #[tactic(auto, unfolding(crate::specs::Calls::cause_of, crate::specs::Calls::effect))]
     pub fn look<V: LeafKind, B: Bank<V>>(&self, bank: &B, h: u16) -> Result<Sight<V>, Cause>
         ensures called { Called V.tidied (look h) (view self.now) (B.cells bank.now) (seen result) (view self.now) (B.cells bank.now) }
     {

@@ -1,12 +1,13 @@
 // Taking an address, and placing a new cell there for a hand.
-ghost use Rattle.std.specs.Prelude.{◌≡◌, ◌<◌, true, false};
+ghost use Rattle.std.specs.Prelude.{◌≡◌, ◌<◌, true, false, if◌then◌else◌, Ok, Err};
 ghost use Rattle.cells.specs.Banks.{storable};
+ghost use Rattle.cells.specs.declared.causes.Cause.TheVariants.{NoRoom};
 ghost use Rattle.store.specs.Fields.{past, made_sticky, taking};
 ghost use Rattle.store.specs.Model.{hand_of};
-ghost use Rattle.store.specs.Calls.{full};
+ghost use Rattle.store.specs.Calls.{full, placed};
 ghost use Rattle.store.specs.Called.{state_at};
 ghost use Rattle.store.specs.Record.{view, field_let_go};
-ghost use Rattle.store.specs.Parts.{roomy, taken_model, changed, place_answer, placed_state};
+ghost use Rattle.store.specs.Parts.{roomy, taken_model, changed};
 
 use crate::Mode;
 use crate::record::Record;
@@ -29,13 +30,17 @@ pub fn made_sticky(field: Field) -> Field
 }
 
 impl Record {
-    // Whether there is no room for a cell in a hand: nothing is listed, the mark is at the size, the hand is not UNIQUE.
-    fn is_full(&self, h: u16) -> bool
-        ensures { result ≡ full (view self.now) h }
+    // Refuses a new cell in a hand for want of room: nothing is listed, the mark is at the size, the hand is not UNIQUE.
+    pub fn room(&self, h: u16) -> Result<(), Cause>
+        ensures { result ≡ (if full (view self.now) h then Err NoRoom else Ok tt) }
     {
-        self.free.is_empty()
+        if self.free.is_empty()
             && self.mark >= self.size
             && !matches!(self.hand(h), Field::To(r) if r.tag == Tag::Unique)
+        {
+            return Err(Cause::NoRoom);
+        }
+        Ok(())
     }
 
     // Puts a field into a hand; the store works from then on.
@@ -68,28 +73,23 @@ impl Record {
             self.mark += 1;
             return at;
         };
-        if let Cell::Pair { left, right } = cell_at(bank, at) {
-            self.let_go(left);
-            self.let_go(right);
+        match cell_at(bank, at) {
+            Cell::Pair { left, right } => {
+                self.let_go(left);
+                self.let_go(right);
+            }
+            Cell::Blank | Cell::Leaf(_) | Cell::Moved { .. } => {}
         }
         at
     }
 
-    // Lets go of a hand and gives it a new cell, or refuses for want of room.
-    pub fn place<V: LeafKind, B: Bank<V>>(
-        &mut self,
-        bank: &mut B,
-        h: u16,
-        cell: &Cell<V>,
-    ) -> Result<(), Cause>
-        requires { storable V.lawful cell.now ≡ true }
-        ensures answer { result ≡ place_answer (view self.old) h }
-        ensures after { state_at (view self.new) (B.cells bank.new) ≡ placed_state (view self.old) (B.cells bank.old) h cell.now }
+    // Lets go of a hand and gives it a new cell.
+    pub fn place<V: LeafKind, B: Bank<V>>(&mut self, bank: &mut B, h: u16, cell: &Cell<V>)
+        requires room { full (view self.old) h ≡ false }
+        requires storable { storable V.lawful cell.now ≡ true }
+        ensures after { state_at (view self.new) (B.cells bank.new) ≡ placed (state_at (view self.old) (B.cells bank.old)) h cell.now }
         ensures rooted { B.root bank.new ≡ B.root bank.old }
     {
-        if self.is_full(h) {
-            return Err(Cause::NoRoom);
-        }
         self.let_go(self.hand(h));
         let address = self.take(bank);
         let _ = bank.put(address, cell);
@@ -100,6 +100,5 @@ impl Record {
                 address,
             }),
         );
-        Ok(())
     }
 }

@@ -1,8 +1,8 @@
 // What the calls ask before they change anything: whether a bank and hands are admitted, and which pair a hand refers to.
-ghost use Rattle.std.specs.Prelude.{◌≡◌};
+ghost use Rattle.std.specs.Prelude.{◌≡◌, IfOk, slice_set};
 ghost use Rattle.store.specs.Model.{hand_of};
 ghost use Rattle.store.specs.Record.{view};
-ghost use Rattle.store.specs.Parts.{admitted, target_of, side_in, with_in};
+ghost use Rattle.store.specs.Parts.{admitted, target_of, side_in, with_in, Aims};
 
 use crate::Mode;
 use crate::record::Record;
@@ -29,11 +29,12 @@ impl Target {
         }
     }
 
-    // The pair with one side set.
-    pub fn with<V: LeafKind>(self, side: Side, field: Field) -> Cell<V>
-        ensures { result ≡ with_in side field self }
+    // Sets one side of the pair in the bank.
+    pub fn put<V: LeafKind, B: Bank<V>>(self, bank: &mut B, side: Side, field: Field)
+        ensures after { B.cells bank.new ≡ slice_set (B.cells bank.old) self.address (with_in side field self) }
+        ensures rooted { B.root bank.new ≡ B.root bank.old }
     {
-        match side {
+        let cell = match side {
             Side::Left => Cell::Pair {
                 left: field,
                 right: self.right,
@@ -42,7 +43,8 @@ impl Target {
                 left: self.left,
                 right: field,
             },
-        }
+        };
+        let _ = bank.put(self.address, &cell);
     }
 }
 
@@ -65,7 +67,8 @@ impl Record {
 
     // The pair that a hand refers to.
     pub fn target<V: LeafKind, B: Bank<V>>(&self, bank: &B, g: u16) -> Result<Target, Cause>
-        ensures { result ≡ target_of (view self.now).mark (B.cells bank.now) (hand_of (view self.now) g) }
+        ensures answer { result ≡ target_of (view self.now).mark (B.cells bank.now) (hand_of (view self.now) g) }
+        ensures aims { IfOk result (Aims (view self.now).mark (B.cells bank.now) (hand_of (view self.now) g)) }
     {
         let Field::To(r) = self.hand(g) else {
             return Err(Cause::NilHand);
