@@ -7,12 +7,13 @@ use Rattle.cells.specs.declared.Side.TheVariants.{Left, Right}
 use Rattle.cells.specs.declared.Cell.{Cell}
 use Rattle.cells.specs.declared.Cell.TheVariants.{Blank, Pair, Leaf, Moved}
 use Rattle.cells.specs.declared.causes.Cause.{Cause}
-use Rattle.cells.specs.declared.causes.Cause.TheVariants.{OtherSize, NoSuchHand, Collecting, NilHand, LeafCell, Spoiled}
+use Rattle.cells.specs.declared.causes.Cause.TheVariants.{OtherSize, NoSuchHand, Collecting, NilHand, LeafCell, Spoiled, NoRoom}
 use Rattle.store.specs.declared.Mode.TheVariants.{Working}
 use Rattle.store.specs.declared.record.targets.Target.{Target}
 use Rattle.store.specs.Model.{Model, is_collecting}
 use Rattle.store.specs.Fields.{Taken, address_of, is_nil}
-use Rattle.store.specs.Calls.{first, unless, leads_to_leaf, astray, field_at}
+use Rattle.store.specs.Called.{state_at}
+use Rattle.store.specs.Calls.{State, first, unless, full, placed, leads_to_leaf, astray, field_at}
 
 -- a bank of n cells and two hands are admitted by a store that does not collect
 abbrev pub admitted : Model → ℕ → ℕ → ℕ → Result Unit Cause
@@ -58,3 +59,10 @@ taken_model m t = record { size = m.size; mark = t.mark; hands = m.hands; free =
 -- a field in a hand, and the store working
 abbrev pub changed : Model → ℕ → Field → Model
 changed m h f = record { size = m.size; mark = m.mark; hands = slice_set m.hands h f; free = m.free; mode = Working }
+
+-- a cell is placed, or there is no room for it
+abbrev pub place_answer : Model → ℕ → Result Unit Cause
+place_answer m h = cond (full m h) (Err NoRoom) (Ok tt)
+
+abbrev pub placed_state : {V : Type 0} → Model → List (Cell V) → ℕ → Cell V → State V
+placed_state m cells h c = cond (full m h) (state_at m cells) (placed (state_at m cells) h c)

@@ -20,7 +20,6 @@ impl Record {
         ensures rooted { B.root bank.new ≡ B.root bank.old }
     {
         self.admit(bank.size(), h, h)?;
-        self.room(h)?;
         self.place(
             bank,
             h,
@@ -28,7 +27,7 @@ impl Record {
                 left: Field::Nil,
                 right: Field::Nil,
             },
-        );
+        )?;
         Ok(())
     }
 
@@ -45,8 +44,7 @@ impl Record {
     {
         self.admit(bank.size(), h, h)?;
         let tidy = value.tidy()?;
-        self.room(h)?;
-        self.place(bank, h, &Cell::Leaf(tidy));
+        self.place(bank, h, &Cell::Leaf(tidy))?;
         Ok(())
     }
 

@@ -1,13 +1,12 @@
 // Taking an address, and placing a new cell there for a hand.
-ghost use Rattle.std.specs.Prelude.{◌≡◌, ◌<◌, true, false, if◌then◌else◌, Ok, Err};
+ghost use Rattle.std.specs.Prelude.{◌≡◌, ◌<◌, true, false};
 ghost use Rattle.cells.specs.Banks.{storable};
-ghost use Rattle.cells.specs.declared.causes.Cause.TheVariants.{NoRoom};
 ghost use Rattle.store.specs.Fields.{past, made_sticky, taking};
 ghost use Rattle.store.specs.Model.{hand_of};
-ghost use Rattle.store.specs.Calls.{full, placed};
+ghost use Rattle.store.specs.Calls.{full};
 ghost use Rattle.store.specs.Called.{state_at};
 ghost use Rattle.store.specs.Record.{view, field_let_go};
-ghost use Rattle.store.specs.Parts.{roomy, taken_model, changed};
+ghost use Rattle.store.specs.Parts.{roomy, taken_model, changed, place_answer, placed_state};
 
 use crate::Mode;
 use crate::record::Record;
@@ -31,8 +30,8 @@ pub fn made_sticky(field: Field) -> Field
 
 impl Record {
     // Refuses a new cell in a hand for want of room: nothing is listed, the mark is at the size, the hand is not UNIQUE.
-    pub fn room(&self, h: u16) -> Result<(), Cause>
-        ensures { result ≡ (if full (view self.now) h then Err NoRoom else Ok tt) }
+    fn room(&self, h: u16) -> Result<(), Cause>
+        ensures { result ≡ place_answer (view self.now) h }
     {
         if self.free.is_empty()
             && self.mark >= self.size
@@ -53,7 +52,7 @@ impl Record {
     }
 
     // Lets go of what a hand holds, and puts a field into it.
-    pub fn replace(&mut self, h: u16, field: Field)
+    pub(crate) fn replace(&mut self, h: u16, field: Field)
         requires { past (view self.old).size field ≡ false }
         ensures { view self.new ≡ changed (field_let_go (view self.old) (hand_of (view self.old) h)) h field }
     {
@@ -83,13 +82,19 @@ impl Record {
         at
     }
 
-    // Lets go of a hand and gives it a new cell.
-    pub fn place<V: LeafKind, B: Bank<V>>(&mut self, bank: &mut B, h: u16, cell: &Cell<V>)
-        requires room { full (view self.old) h ≡ false }
-        requires storable { storable V.lawful cell.now ≡ true }
-        ensures after { state_at (view self.new) (B.cells bank.new) ≡ placed (state_at (view self.old) (B.cells bank.old)) h cell.now }
+    // Lets go of a hand and gives it a new cell, or refuses for want of room.
+    pub fn place<V: LeafKind, B: Bank<V>>(
+        &mut self,
+        bank: &mut B,
+        h: u16,
+        cell: &Cell<V>,
+    ) -> Result<(), Cause>
+        requires { storable V.lawful cell.now ≡ true }
+        ensures answer { result ≡ place_answer (view self.old) h }
+        ensures after { state_at (view self.new) (B.cells bank.new) ≡ placed_state (view self.old) (B.cells bank.old) h cell.now }
         ensures rooted { B.root bank.new ≡ B.root bank.old }
     {
+        self.room(h)?;
         self.let_go(self.hand(h));
         let address = self.take(bank);
         let _ = bank.put(address, cell);
@@ -100,5 +105,6 @@ impl Record {
                 address,
             }),
         );
+        Ok(())
     }
 }

@@ -29,12 +29,11 @@ impl Target {
         }
     }
 
-    // Sets one side of the pair in the bank.
-    pub fn put<V: LeafKind, B: Bank<V>>(self, bank: &mut B, side: Side, field: Field)
-        ensures after { B.cells bank.new ≡ slice_set (B.cells bank.old) self.address (with_in side field self) }
-        ensures rooted { B.root bank.new ≡ B.root bank.old }
+    // The pair with one side set.
+    pub fn with<V: LeafKind>(self, side: Side, field: Field) -> Cell<V>
+        ensures { result ≡ with_in side field self }
     {
-        let cell = match side {
+        match side {
             Side::Left => Cell::Pair {
                 left: field,
                 right: self.right,
@@ -43,8 +42,15 @@ impl Target {
                 left: self.left,
                 right: field,
             },
-        };
-        let _ = bank.put(self.address, &cell);
+        }
+    }
+
+    // Sets one side of the pair in the bank.
+    pub(crate) fn put<V: LeafKind, B: Bank<V>>(self, bank: &mut B, side: Side, field: Field)
+        ensures after { B.cells bank.new ≡ slice_set (B.cells bank.old) self.address (with_in side field self) }
+        ensures rooted { B.root bank.new ≡ B.root bank.old }
+    {
+        let _ = bank.put(self.address, &self.with(side, field));
     }
 }
 
