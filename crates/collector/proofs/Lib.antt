@@ -1,2 +1,2 @@
-pub mod Stepping
+pub mod Sources
 pub mod Marching

@@ -1,5 +1,5 @@
 -- The places that a collection visits, and the fields that are put there, by the cell of a place. Assumes nothing.
-use Rattle.std.specs.Prelude.{◌+◌, ◌*◌, Bool, true, cond, List, Some, None, Option, ◌==◌, nat_lt, slice_index_or, slice_set}
+use Rattle.std.specs.Prelude.{◌+◌, ◌*◌, Bool, true, cond, List, Some, None, Option, nat_lt, slice_index_or, slice_set}
 use Rattle.cells.specs.declared.Field.{Field}
 use Rattle.cells.specs.declared.Field.TheVariants as field
 use Rattle.cells.specs.declared.Source.{Source}
@@ -56,11 +56,3 @@ abbrev pub field_there : {V : Type 0} → List Field → Source → Cell V → F
 field_there hands Nowhere c = field.Nil
 field_there hands (Hand h) c = slice_index_or hands h field.Nil
 field_there hands (CellSide a s) c = field_of s c
-
--- the cell of a source, once a field was put into another place
-abbrev pub cell_since : {V : Type 0} → Source → Cell V → Field → Source → Cell V → Cell V
-cell_since Nowhere visited f source c = c
-cell_since (Hand h) visited f source c = c
-cell_since (CellSide a s) visited f Nowhere c = c
-cell_since (CellSide a s) visited f (Hand h) c = c
-cell_since (CellSide a s) visited f (CellSide b t) c = cond (a == b) (with_side s f visited) c

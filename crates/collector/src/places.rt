@@ -1,12 +1,13 @@
 // The places that a collection visits: hands, and sides of new cells. A cell that was read once is not read again.
-ghost use Rattle.std.specs.Prelude.{◌≡◌, ◌<◌, true, false, if◌then◌else◌, Ok, Err};
+ghost use Rattle.std.specs.Prelude.{◌≡◌, ◌<◌, true, false, if◌then◌else◌, List, Ok, Err};
+ghost use Rattle.cells.specs.declared.Cell.{Cell};
 ghost use Rattle.cells.specs.declared.causes.Cause.TheVariants.{Spoiled};
 ghost use Rattle.graph.specs.Places.{field_of};
 ghost use Rattle.store.specs.Fields.{past, with_side};
 ghost use Rattle.store.specs.Model.{is_collecting};
 ghost use Rattle.store.specs.Record.{view};
 ghost use Rattle.collector.specs.Steps.{source_at};
-ghost use Rattle.collector.specs.Places.{place_left, cell_at_place, cell_since, cells_at, with_hands_at, place_fits, visitable, field_there};
+ghost use Rattle.collector.specs.Places.{place_left, cell_at_place, cells_at, with_hands_at, place_fits, visitable, field_there};
 
 use cells::banks::{Bank, cell_at};
 use cells::causes::Cause;
@@ -123,7 +124,7 @@ impl<V: LeafKind> Place<V> {
     // The same place once a field was put into another: the two may be sides of one pair.
     pub fn since(self, other: &Place<V>, field: Field) -> Place<V>
         ensures at { result.at ≡ self.at }
-        ensures cell { result.cell ≡ cell_since other.now.at other.now.cell field self.at self.cell }
+        ensures cell { (new : List (Cell V)) → other.now.cell ≡ cell_at_place new other.now.at → self.cell ≡ cell_at_place new self.at → result.cell ≡ cell_at_place (cells_at other.now.at field other.now.cell new) self.at }
     {
         match (other.at, self.at) {
             (Source::Cell(a, side), Source::Cell(b, _)) if a == b => Place {
