@@ -37,6 +37,7 @@ impl Hands {
     pub fn set(&mut self, h: usize, field: Field)
         ensures { self.new.fields ≡ slice_set self.old.fields h field }
     {
+        // By index: what `get_mut` of a slice ensures does not say what a write through it leaves.
         if h < self.fields.len() {
             self.fields[h] = field;
         }

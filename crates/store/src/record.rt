@@ -40,6 +40,7 @@ fn checked_size(size: usize) -> Result<u16, Cause>
     }
 }
 
+// A function, since `Field` is a type of another crate, and a trait for it would be no plainer.
 fn is_past(bound: u16, field: Field) -> bool
     ensures { result ≡ past bound field }
 {
