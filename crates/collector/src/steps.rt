@@ -175,7 +175,6 @@ impl<V: LeafKind> Visit<V> {
 }
 
 // Makes the next step of a collection, which visits this place.
-#[tactic(auto, unfolding(crate::specs::Steps::stepped))]
 pub fn step<V: LeafKind, O: Bank<V>, N: Bank<V>>(
     store: &mut Record,
     old: &mut O,

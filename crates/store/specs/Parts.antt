@@ -1,5 +1,5 @@
 -- The parts that the code of several calls shares, and what each gives. What a call means is said without them. Assumes nothing.
-use Rattle.std.specs.Prelude.{◌≡◌, ℕ, Bool, false, cond, not, ◌||◌, List, [], ◌∷◌, length, Ok, Err, Result, ◌==◌, nat_lt, slice_index_or, slice_set}
+use Rattle.std.specs.Prelude.{◌≡◌, ℕ, Bool, false, cond, not, ◌||◌, List, [], ◌∷◌, length, Some, Ok, Err, Result, ◌==◌, nat_lt, slice_index_or, slice_set}
 use Rattle.cells.specs.declared.Field.{Field}
 use Rattle.cells.specs.declared.Field.TheVariants.{Nil, To}
 use Rattle.cells.specs.declared.Side.{Side}
@@ -40,6 +40,10 @@ pub record Aims {V : Type 0} (mark : ℕ) (cells : List (Cell V)) (f : Field) (t
   pub straight : astray mark cells f ≡ false
   pub left : field_at cells Left f ≡ t.left
   pub right : field_at cells Right f ≡ t.right
+
+-- what it refuses: the first row that applies
+abbrev pub Misses : {V : Type 0} → ℕ → List (Cell V) → Field → Cause → Type 0
+Misses mark cells f c = first ((is_nil f, NilHand) ∷ (leads_to_leaf cells f, LeafCell) ∷ (astray mark cells f, Spoiled) ∷ []) ≡ Some c
 
 abbrev pub side_in : Side → Target → Field
 side_in Left t = t.left

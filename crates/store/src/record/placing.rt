@@ -1,5 +1,5 @@
 // Taking an address, and placing a new cell there for a hand.
-ghost use Rattle.std.specs.Prelude.{◌≡◌, ◌<◌, true, false};
+ghost use Rattle.std.specs.Prelude.{◌≡◌, ◌<◌, true, false, OnErr};
 ghost use Rattle.cells.specs.Banks.{storable};
 ghost use Rattle.store.specs.Fields.{past, made_sticky, taking};
 ghost use Rattle.store.specs.Model.{hand_of};
@@ -92,6 +92,7 @@ impl Record {
         requires { storable V.lawful cell.now ≡ true }
         ensures answer { result ≡ place_answer (view self.old) h }
         ensures after { state_at (view self.new) (B.cells bank.new) ≡ placed_state (view self.old) (B.cells bank.old) h cell.now }
+        ensures refused { OnErr result ((full (view self.old) h ≡ true) × (state_at (view self.new) (B.cells bank.new) ≡ state_at (view self.old) (B.cells bank.old))) }
         ensures rooted { B.root bank.new ≡ B.root bank.old }
     {
         self.room(h)?;

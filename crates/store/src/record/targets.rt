@@ -1,8 +1,8 @@
 // What the calls ask before they change anything: whether a bank and hands are admitted, and which pair a hand refers to.
-ghost use Rattle.std.specs.Prelude.{◌≡◌, IfOk, slice_set};
+ghost use Rattle.std.specs.Prelude.{◌≡◌, IfOk, IfErr, slice_set};
 ghost use Rattle.store.specs.Model.{hand_of};
 ghost use Rattle.store.specs.Record.{view};
-ghost use Rattle.store.specs.Parts.{admitted, target_of, side_in, with_in, Aims};
+ghost use Rattle.store.specs.Parts.{admitted, target_of, side_in, with_in, Aims, Misses};
 
 use crate::Mode;
 use crate::record::Record;
@@ -75,6 +75,7 @@ impl Record {
     pub fn target<V: LeafKind, B: Bank<V>>(&self, bank: &B, g: u16) -> Result<Target, Cause>
         ensures answer { result ≡ target_of (view self.now).mark (B.cells bank.now) (hand_of (view self.now) g) }
         ensures aims { IfOk result (Aims (view self.now).mark (B.cells bank.now) (hand_of (view self.now) g)) }
+        ensures misses { IfErr result (Misses (view self.now).mark (B.cells bank.now) (hand_of (view self.now) g)) }
     {
         let Field::To(r) = self.hand(g) else {
             return Err(Cause::NilHand);
