@@ -1,4 +1,2 @@
-pub mod Visiting
-pub mod Stepping
+pub mod Sources
 pub mod Marching
-pub mod Acting

@@ -26,13 +26,22 @@ abbrev pub abandoned_reply : Result Unit (Cause × Ticket) → Result Reply Caus
 abandoned_reply (Ok u) = Ok ready
 abandoned_reply (Err e) = Err e.0
 
+-- the same of the parts of Finish and Abandon that need no ticket
+abbrev pub settled_reply : Result (ℕ × ℕ) Cause → Result Reply Cause
+settled_reply (Ok p) = Ok (kept_marks p.0 p.1)
+settled_reply (Err c) = Err c
+
+abbrev pub renewed_reply : Result Unit Cause → Result Reply Cause
+renewed_reply (Ok u) = Ok ready
+renewed_reply (Err c) = Err c
+
 -- Made on a record and its banks, a call answers r and leaves the record and the banks as they are said to be after.
 pub record Acted {V : Type 0} (a : Act V) (b : Banks V) (r : Result Reply Cause) (b' : Banks V) : Type 0 where
   pub answer : r ≡ act_answer b (length b.cells) (length b.fresh) a
   pub after : b' ≡ act_banks b (length b.cells) (length b.fresh) a
 
 -- the banks in use after Finish: an accepted one makes the new bank the working one
-abbrev pub exchanged_by : {V X : Type 0} → Result X (Cause × Ticket) → Model → List (Cell V) → List (Cell V) → Banks V
+abbrev pub exchanged_by : {V X E : Type 0} → Result X E → Model → List (Cell V) → List (Cell V) → Banks V
 exchanged_by (Ok x) m old new = banks_at m new old
 exchanged_by (Err e) m old new = banks_at m old new
 

@@ -3,10 +3,11 @@
 ghost use Rattle.std.specs.Prelude.{◌≡◌, List};
 ghost use Rattle.cells.specs.declared.Cell.{Cell};
 ghost use Rattle.store.specs.Record.{view};
-ghost use Rattle.collector.specs.Collections.{begin, slice, finish, abandon, steps_of, copied_of, marks_of};
+ghost use Rattle.collector.specs.Collections.{begin, slice, finish, abandon};
 ghost use Rattle.collector.specs.Visits.{banks_at};
-ghost use Rattle.collector.specs.Acts.{Acted, begun_reply, sliced_reply, finished_reply, abandoned_reply, exchanged_by, both_sized, under_way};
+ghost use Rattle.collector.specs.Acts.{Acted, begun_reply, sliced_reply, finished_reply, abandoned_reply, settled_reply, renewed_reply, exchanged_by, both_sized, under_way};
 
+use crate::counts::Counts;
 use crate::marches::make_steps;
 use crate::tickets::Ticket;
 use cells::banks::Bank;
@@ -38,26 +39,8 @@ fn under_way(store: &Record, old: usize, new: usize) -> Result<(), Cause>
     }
 }
 
-fn steps_made(store: &Record) -> u32
-    ensures { result ≡ steps_of (view store.now).mode }
-{
-    match store.mode() {
-        Mode::Collecting { steps, .. } => steps,
-        Mode::Settled | Mode::Working => 0,
-    }
-}
-
-// The cells copied and the marks.
-fn tally(store: &Record) -> (u32, u32)
-    ensures { result ≡ (copied_of (view store.now).mode, marks_of (view store.now).mode) }
-{
-    match store.mode() {
-        Mode::Collecting { copied, marks, .. } => (copied as u32, marks),
-        Mode::Settled | Mode::Working => (0, 0),
-    }
-}
-
 // Makes the store collecting: the working bank is the old one from now on, and the spare the new one.
+#[tactic(auto, unfolding(crate::specs::Collections::act_cause))]
 pub fn begin<V: LeafKind, O: Bank<V>, N: Bank<V>>(
     store: &mut Record,
     working: &O,
@@ -71,6 +54,7 @@ pub fn begin<V: LeafKind, O: Bank<V>, N: Bank<V>>(
 }
 
 // Makes as many steps as the budget allows and as are left, and answers how many.
+#[tactic(auto, unfolding(crate::specs::Collections::act_cause))]
 pub fn slice<V: LeafKind, O: Bank<V>, N: Bank<V>>(
     _ticket: &Ticket,
     store: &mut Record,
@@ -83,11 +67,28 @@ pub fn slice<V: LeafKind, O: Bank<V>, N: Bank<V>>(
     ensures new_rooted { N.root new.new ≡ N.root new.old }
 {
     under_way(store, old.size(), new.size())?;
-    let before = steps_made(store);
-    if make_steps(store, old, new, budget) {
-        return Err(Cause::Spoiled);
-    }
-    Ok(steps_made(store).saturating_sub(before))
+    let before = Counts::of(store).steps;
+    make_steps(store, old, new, budget)?;
+    Ok(Counts::of(store).steps.saturating_sub(before))
+}
+
+// Makes the steps that are left, and settles.
+#[tactic(auto, unfolding(crate::specs::Collections::act_cause))]
+fn settle<V: LeafKind, O: Bank<V>, N: Bank<V>>(
+    store: &mut Record,
+    old: &mut O,
+    new: &mut N,
+) -> Result<(u32, u32), Cause>
+    ensures acted { Acted finish (banks_at (view store.old) (O.cells old.old) (N.cells new.old)) (settled_reply result) (exchanged_by result (view store.new) (O.cells old.new) (N.cells new.new)) }
+    ensures old_rooted { O.root old.new ≡ O.root old.old }
+    ensures new_rooted { N.root new.new ≡ N.root new.old }
+{
+    under_way(store, old.size(), new.size())?;
+    let most = (16 + 2 * store.size() as u32).saturating_sub(Counts::of(store).steps);
+    make_steps(store, old, new, most)?;
+    let counts = Counts::of(store);
+    store.advance(Happening::Finished)?;
+    Ok((counts.copied as u32, counts.marks))
 }
 
 // Makes the steps that are left, and settles: the new bank is the working one from then on. Answers the cells kept and the marks.
@@ -101,17 +102,16 @@ pub fn finish<V: LeafKind, O: Bank<V>, N: Bank<V>>(
     ensures old_rooted { O.root old.new ≡ O.root old.old }
     ensures new_rooted { N.root new.new ≡ N.root new.old }
 {
-    if let Err(cause) = under_way(store, old.size(), new.size()) {
-        return Err((cause, ticket));
-    }
-    let most = (16 + 2 * store.size() as u32).saturating_sub(steps_made(store));
-    if make_steps(store, old, new, most) {
-        return Err((Cause::Spoiled, ticket));
-    }
-    let counts = tally(store);
-    let _ = store.advance(Happening::Finished);
-    ticket.spend();
-    Ok(counts)
+    ticket.spend_on(settle(store, old, new))
+}
+
+// Makes the store a new one.
+#[tactic(auto, unfolding(crate::specs::Collections::act_cause))]
+fn renew<V: LeafKind, O: Bank<V>>(store: &mut Record, old: &O) -> Result<(), Cause>
+    ensures { (fresh : List (Cell V)) → Acted abandon (banks_at (view store.old) (O.cells old.now) fresh) (renewed_reply result) (banks_at (view store.new) (O.cells old.now) fresh) }
+{
+    both_sized(store, old.size(), old.size())?;
+    store.advance(Happening::Abandoned)
 }
 
 // Leaves a new store on the old bank.
@@ -122,15 +122,5 @@ pub fn abandon<V: LeafKind, O: Bank<V>>(
 ) -> Result<(), (Cause, Ticket)>
     ensures { (fresh : List (Cell V)) → Acted abandon (banks_at (view store.old) (O.cells old.now) fresh) (abandoned_reply result) (banks_at (view store.new) (O.cells old.now) fresh) }
 {
-    let size = old.size();
-    if let Err(cause) = both_sized(store, size, size) {
-        return Err((cause, ticket));
-    }
-    match store.advance(Happening::Abandoned) {
-        Ok(()) => {
-            ticket.spend();
-            Ok(())
-        }
-        Err(cause) => Err((cause, ticket)),
-    }
+    ticket.spend_on(renew(store, old))
 }

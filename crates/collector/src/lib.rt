@@ -3,7 +3,8 @@
 #![tactic(auto)]
 
 pub mod calls;
+mod counts;
 mod marches;
+mod places;
 mod steps;
 pub mod tickets;
-mod visits;

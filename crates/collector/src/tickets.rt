@@ -1,4 +1,8 @@
 // The ticket of a collection. It can be neither copied nor let fall: Begin gives it, Finish and Abandon take it back.
+ghost use Rattle.std.specs.Prelude.{◌≡◌};
+ghost use Rattle.collector.specs.Tickets.{spent_on};
+
+use cells::causes::Cause;
 
 pub struct Ticket {
     begun: (),
@@ -9,9 +13,17 @@ impl Ticket {
         Ticket { begun: () }
     }
 
-    // Takes the ticket out of the world.
-    pub(crate) fn spend(self) {
-        let Ticket { begun: () } = self;
+    // Takes the ticket out of the world where a call is done, or hands it back with the refusal.
+    pub(crate) fn spend_on<T>(self, outcome: Result<T, Cause>) -> Result<T, (Cause, Ticket)>
+        ensures { result ≡ spent_on self outcome }
+    {
+        match outcome {
+            Ok(value) => {
+                let Ticket { begun: () } = self;
+                Ok(value)
+            }
+            Err(cause) => Err((cause, self)),
+        }
     }
 }
 

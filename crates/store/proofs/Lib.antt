@@ -1,4 +1,1 @@
-pub mod Listing
 pub mod Keeping
-pub mod Taking
-pub mod Calling

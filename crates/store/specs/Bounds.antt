@@ -1,15 +1,11 @@
 -- The addresses that a store's record holds, and the bounds that they keep. Assumes nothing.
-use Rattle.std.specs.Prelude.{ℕ, ◌+◌, ◌*◌, Bool, true, cond, not, ◌&&◌, List, [], ◌∷◌, ◌++◌, length, take, Some, None, Option, ◌==◌, nat_le, nat_lt, slice_index}
+use Rattle.std.specs.Prelude.{ℕ, ◌+◌, ◌*◌, Bool, true, cond, not, ◌&&◌, List, [], ◌∷◌, ◌++◌, length, Some, None, Option, ◌==◌, nat_le, nat_lt, slice_index}
 use Rattle.cells.specs.declared.Field.{Field}
 use Rattle.store.specs.declared.Mode.{Mode}
 use Rattle.store.specs.declared.Mode.TheVariants.{Settled, Working, Collecting}
 use Rattle.store.specs.Fields.{past, top}
 
 -- ---- the free list
-
--- the addresses listed: as many as are counted
-abbrev pub listed : ℕ → List ℕ → List ℕ
-listed count at = take count at
 
 -- an address listed on top, while fewer than sixteen are
 abbrev pub pushed : ℕ → List ℕ → List ℕ

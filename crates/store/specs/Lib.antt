@@ -4,7 +4,6 @@ pub mod Calls
 pub mod Called
 pub mod Bounds
 pub mod Advances
-pub mod Turns
 pub mod Record
 pub mod Parts
 pub mod Restoring

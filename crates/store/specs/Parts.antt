@@ -1,5 +1,5 @@
 -- The parts that the code of several calls shares, and what each gives. What a call means is said without them. Assumes nothing.
-use Rattle.std.specs.Prelude.{ℕ, Bool, cond, not, ◌||◌, List, [], ◌∷◌, length, Ok, Err, Result, ◌==◌, nat_lt, slice_index_or, slice_set}
+use Rattle.std.specs.Prelude.{◌≡◌, ℕ, Bool, false, cond, not, ◌||◌, List, [], ◌∷◌, length, Some, Ok, Err, Result, ◌==◌, nat_lt, slice_index_or, slice_set}
 use Rattle.cells.specs.declared.Field.{Field}
 use Rattle.cells.specs.declared.Field.TheVariants.{Nil, To}
 use Rattle.cells.specs.declared.Side.{Side}
@@ -11,9 +11,9 @@ use Rattle.cells.specs.declared.causes.Cause.TheVariants.{OtherSize, NoSuchHand,
 use Rattle.store.specs.declared.Mode.TheVariants.{Working}
 use Rattle.store.specs.declared.record.targets.Target.{Target}
 use Rattle.store.specs.Model.{Model, is_collecting}
-use Rattle.store.specs.Fields.{Taken}
-use Rattle.store.specs.Calls.{State, first, unless, full, placed}
+use Rattle.store.specs.Fields.{Taken, address_of, is_nil}
 use Rattle.store.specs.Called.{state_at}
+use Rattle.store.specs.Calls.{State, first, unless, full, placed, leads_to_leaf, astray, field_at}
 
 -- a bank of n cells and two hands are admitted by a store that does not collect
 abbrev pub admitted : Model → ℕ → ℕ → ℕ → Result Unit Cause
@@ -30,6 +30,20 @@ target_in mark a (Moved f s) = Err Spoiled
 abbrev pub target_of : {V : Type 0} → ℕ → List (Cell V) → Field → Result Target Cause
 target_of mark cells Nil = Err NilHand
 target_of mark cells (To r) = target_in mark r.address (slice_index_or cells r.address Blank)
+
+-- what the code goes on with: a reference that leads to a pair below the mark
+pub record Aims {V : Type 0} (mark : ℕ) (cells : List (Cell V)) (f : Field) (t : Target) : Type 0 where
+  pub address : address_of f ≡ t.address
+  pub cell : slice_index_or cells t.address Blank ≡ Pair t.left t.right
+  pub some : is_nil f ≡ false
+  pub pair : leads_to_leaf cells f ≡ false
+  pub straight : astray mark cells f ≡ false
+  pub left : field_at cells Left f ≡ t.left
+  pub right : field_at cells Right f ≡ t.right
+
+-- what it refuses: the first row that applies
+abbrev pub Misses : {V : Type 0} → ℕ → List (Cell V) → Field → Cause → Type 0
+Misses mark cells f c = first ((is_nil f, NilHand) ∷ (leads_to_leaf cells f, LeafCell) ∷ (astray mark cells f, Spoiled) ∷ []) ≡ Some c
 
 abbrev pub side_in : Side → Target → Field
 side_in Left t = t.left

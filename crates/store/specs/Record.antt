@@ -1,16 +1,15 @@
 -- What the record of a store stands for, and what its own calls make of it. Assumes nothing.
-use Rattle.std.specs.Prelude.{ℕ, cond, Ok, Err, Result, slice_set}
+use Rattle.std.specs.Prelude.{ℕ, Ok, Err, Result}
 use Rattle.cells.specs.declared.Field.{Field}
 use Rattle.cells.specs.declared.causes.Cause.{Cause}
 use Rattle.store.specs.declared.record.Record.{Record}
 use Rattle.store.specs.Model.{Model, new_model}
-use Rattle.store.specs.Fields.{past, let_go, below_top}
-use Rattle.store.specs.Bounds.{listed}
+use Rattle.store.specs.Fields.{let_go, below_top}
 use Rattle.store.specs.Calls.{unless, size_cause}
 
 -- the record without its proofs
 abbrev pub view : Record → Model
-view r = record { size = r.size; mark = r.mark; hands = r.hands.fields; free = listed r.free.count r.free.at; mode = r.mode }
+view r = record { size = r.size; mark = r.mark; hands = r.hands.fields; free = r.free; mode = r.mode }
 
 abbrev pub viewed : Result Record Cause → Result Model Cause
 viewed (Ok r) = Ok (view r)
@@ -19,10 +18,6 @@ viewed (Err c) = Err c
 -- a record made over a bank of that size, or why none is
 abbrev pub made : ℕ → Result Model Cause
 made n = unless (size_cause n) (new_model n) Err Ok
-
--- a field in a hand, unless it is a reference past the size
-abbrev pub hand_put : Model → ℕ → Field → Model
-hand_put m h f = cond (past m.size f) m (record { size = m.size; mark = m.mark; hands = slice_set m.hands h f; free = m.free; mode = m.mode })
 
 abbrev pub field_let_go : Model → Field → Model
 field_let_go m f = record { size = m.size; mark = m.mark; hands = m.hands; free = let_go m.mark f m.free; mode = m.mode }

@@ -1,29 +1,8 @@
 // The sixteen hands of a store.
-ghost use Rattle.std.specs.Prelude.{◌≡◌, replicate, slice_index_or, slice_set};
+ghost use Rattle.std.specs.Prelude.{◌≡◌, length, replicate, slice_index_or, slice_set};
 ghost use Rattle.cells.specs.declared.Field.TheVariants.{Nil};
 
 use cells::Field;
-
-mod whole;
-
-// By slices: of a slice the length is known on both ways of the test.
-fn field_at(fields: &[Field], h: usize) -> Field
-    ensures { result ≡ slice_index_or fields.now h Nil }
-{
-    if h < fields.len() {
-        fields[h]
-    } else {
-        Field::Nil
-    }
-}
-
-fn put_field(table: &mut [Field], h: usize, field: Field)
-    ensures { table.new ≡ slice_set table.old h field }
-{
-    if h < table.len() {
-        table[h] = field;
-    }
-}
 
 #[derive(Clone, Copy)]
 pub struct Hands {
@@ -40,17 +19,35 @@ impl Hands {
         }
     }
 
+    // Hands that hold these fields.
+    pub fn of(fields: [Field; 16]) -> Self
+        ensures { result.fields ≡ fields }
+    {
+        Hands { fields }
+    }
+
     // What a hand holds. There is nothing in a hand past the last.
     pub fn get(&self, h: usize) -> Field
         ensures { result ≡ slice_index_or self.now.fields h Nil }
     {
-        field_at(&self.fields, h)
+        self.fields.get(h).copied().unwrap_or(Field::Nil)
     }
 
     // Puts a field into one hand. A hand past the last takes nothing.
     pub fn set(&mut self, h: usize, field: Field)
         ensures { self.new.fields ≡ slice_set self.old.fields h field }
     {
-        put_field(&mut self.fields, h, field)
+        // By index: what `get_mut` of a slice ensures does not say what a write through it leaves.
+        if h < self.fields.len() {
+            self.fields[h] = field;
+        }
+    }
+
+    // All of them, in order.
+    pub fn all(&self) -> [Field; 16]
+        ensures held { result ≡ self.now.fields }
+        ensures sixteen { length result ≡ 16 }
+    {
+        self.fields
     }
 }

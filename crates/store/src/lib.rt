@@ -4,7 +4,6 @@
 mod free;
 mod hands;
 pub mod record;
-mod turning;
 pub mod turns;
 
 // What a store is doing. A collecting one holds the steps made, the cells copied and the marks.

@@ -6,7 +6,7 @@ ghost use Rattle.store.specs.Record.{view};
 use crate::Mode;
 use crate::free::FreeList;
 use crate::hands::Hands;
-use crate::record::Record;
+use crate::record::{Record, is_past};
 use crate::turns::Happening;
 use cells::Field;
 use cells::causes::Cause;
@@ -72,10 +72,10 @@ impl Record {
         if hand > 15 {
             return Err(Cause::NoSuchHand);
         }
-        if self.put_hand(hand, field) {
-            Ok(())
-        } else {
-            Err(Cause::Spoiled)
+        if is_past(self.size, field) {
+            return Err(Cause::Spoiled);
         }
+        self.hands.set(hand as usize, field);
+        Ok(())
     }
 }

@@ -4,9 +4,8 @@ ghost use Rattle.store.specs.Calls.{pair, leaf, copy, load, store, swap, clear, 
 ghost use Rattle.store.specs.Called.{Called, told, seen};
 ghost use Rattle.store.specs.Record.{view};
 
-use crate::record::Record;
-use crate::record::holding::{is_nil, is_past};
 use crate::record::placing::made_sticky;
+use crate::record::{Record, is_past};
 use crate::{Mode, Sight};
 use cells::banks::{Bank, cell_at};
 use cells::causes::Cause;
@@ -15,6 +14,7 @@ use cells::{Cell, Field, Side};
 
 impl Record {
     // A new pair with two nil sides in hand h.
+    #[tactic(auto, unfolding(crate::specs::Calls::cause_of, crate::specs::Calls::effect))]
     pub fn pair<V: LeafKind, B: Bank<V>>(&mut self, bank: &mut B, h: u16) -> Result<(), Cause>
         ensures called { Called V.tidied (pair h) (view self.old) (B.cells bank.old) (told result) (view self.new) (B.cells bank.new) }
         ensures rooted { B.root bank.new ≡ B.root bank.old }
@@ -27,10 +27,12 @@ impl Record {
                 left: Field::Nil,
                 right: Field::Nil,
             },
-        )
+        )?;
+        Ok(())
     }
 
     // A new leaf with the tidied value in hand h.
+    #[tactic(auto, unfolding(crate::specs::Calls::cause_of, crate::specs::Calls::effect))]
     pub fn leaf<V: LeafKind, B: Bank<V>>(
         &mut self,
         bank: &mut B,
@@ -42,10 +44,12 @@ impl Record {
     {
         self.admit(bank.size(), h, h)?;
         let tidy = value.tidy()?;
-        self.place(bank, h, &Cell::Leaf(tidy))
+        self.place(bank, h, &Cell::Leaf(tidy))?;
+        Ok(())
     }
 
     // Hand h gets what hand g holds, and both are STICKY then.
+    #[tactic(auto, unfolding(crate::specs::Calls::cause_of, crate::specs::Calls::effect))]
     pub fn copy<V: LeafKind, B: Bank<V>>(&mut self, bank: &B, h: u16, g: u16) -> Result<(), Cause>
         ensures called { Called V.tidied (copy h g) (view self.old) (B.cells bank.now) (told result) (view self.new) (B.cells bank.now) }
     {
@@ -55,14 +59,13 @@ impl Record {
             return Ok(());
         }
         let field = made_sticky(self.hand(g));
-        let held = self.hand(h);
-        let _ = self.put_hand(g, field);
-        self.let_go(held);
-        self.change(h, field);
+        self.change(g, field);
+        self.replace(h, field);
         Ok(())
     }
 
     // Hand h gets the field on a side of the pair that g refers to, and both are STICKY then.
+    #[tactic(auto, unfolding(crate::specs::Calls::cause_of, crate::specs::Calls::effect))]
     pub fn load<V: LeafKind, B: Bank<V>>(
         &mut self,
         bank: &mut B,
@@ -80,14 +83,13 @@ impl Record {
             return Err(Cause::Spoiled);
         }
         let field = made_sticky(field);
-        let _ = bank.put(target.address, &target.with(side, field));
-        let held = self.hand(h);
-        self.let_go(held);
-        self.change(h, field);
+        target.put(bank, side, field);
+        self.replace(h, field);
         Ok(())
     }
 
     // The side of the pair that g refers to gets what hand h holds, and both are STICKY then.
+    #[tactic(auto, unfolding(crate::specs::Calls::cause_of, crate::specs::Calls::effect))]
     pub fn store<V: LeafKind, B: Bank<V>>(
         &mut self,
         bank: &mut B,
@@ -102,12 +104,13 @@ impl Record {
         let target = self.target(bank, g)?;
         let field = made_sticky(self.hand(h));
         self.let_go(target.side(side));
-        let _ = bank.put(target.address, &target.with(side, field));
+        target.put(bank, side, field);
         self.change(h, field);
         Ok(())
     }
 
     // Hand h and the side of the pair that g refers to are exchanged, tags and all.
+    #[tactic(auto, unfolding(crate::specs::Calls::cause_of, crate::specs::Calls::effect))]
     pub fn swap<V: LeafKind, B: Bank<V>>(
         &mut self,
         bank: &mut B,
@@ -125,23 +128,23 @@ impl Record {
             return Err(Cause::Spoiled);
         }
         let held = self.hand(h);
-        let _ = bank.put(target.address, &target.with(side, held));
+        target.put(bank, side, held);
         self.change(h, field);
         Ok(())
     }
 
     // Hand h becomes nil.
+    #[tactic(auto, unfolding(crate::specs::Calls::cause_of, crate::specs::Calls::effect))]
     pub fn clear<V: LeafKind, B: Bank<V>>(&mut self, bank: &B, h: u16) -> Result<(), Cause>
         ensures called { Called V.tidied (clear h) (view self.old) (B.cells bank.now) (told result) (view self.new) (B.cells bank.now) }
     {
         self.admit(bank.size(), h, h)?;
-        let held = self.hand(h);
-        self.let_go(held);
-        self.change(h, Field::Nil);
+        self.replace(h, Field::Nil);
         Ok(())
     }
 
     // What hand h shows.
+    #[tactic(auto, unfolding(crate::specs::Calls::cause_of, crate::specs::Calls::effect))]
     pub fn look<V: LeafKind, B: Bank<V>>(&self, bank: &B, h: u16) -> Result<Sight<V>, Cause>
         ensures called { Called V.tidied (look h) (view self.now) (B.cells bank.now) (seen result) (view self.now) (B.cells bank.now) }
     {
@@ -154,8 +157,8 @@ impl Record {
         }
         match cell_at(bank, r.address) {
             Cell::Pair { left, right } => Ok(Sight::APair {
-                left_nil: is_nil(left),
-                right_nil: is_nil(right),
+                left_nil: left == Field::Nil,
+                right_nil: right == Field::Nil,
             }),
             Cell::Leaf(v) => Ok(Sight::ALeaf(v)),
             Cell::Blank | Cell::Moved { .. } => Err(Cause::Spoiled),

@@ -1,10 +1,11 @@
 // Taking an address, and placing a new cell there for a hand.
-ghost use Rattle.std.specs.Prelude.{◌≡◌, ◌<◌, true, false};
+ghost use Rattle.std.specs.Prelude.{◌≡◌, ◌<◌, true, false, OnErr};
 ghost use Rattle.cells.specs.Banks.{storable};
-ghost use Rattle.store.specs.Fields.{past, unique_field, made_sticky, taking};
+ghost use Rattle.store.specs.Fields.{past, made_sticky, taking};
+ghost use Rattle.store.specs.Model.{hand_of};
 ghost use Rattle.store.specs.Calls.{full};
 ghost use Rattle.store.specs.Called.{state_at};
-ghost use Rattle.store.specs.Record.{view};
+ghost use Rattle.store.specs.Record.{view, field_let_go};
 ghost use Rattle.store.specs.Parts.{roomy, taken_model, changed, place_answer, placed_state};
 
 use crate::Mode;
@@ -13,15 +14,6 @@ use cells::banks::{Bank, cell_at};
 use cells::causes::Cause;
 use cells::leaves::LeafKind;
 use cells::{Cell, Field, Reference, Tag};
-
-fn is_unique(field: Field) -> bool
-    ensures { result ≡ unique_field field }
-{
-    match field {
-        Field::To(r) => matches!(r.tag, Tag::Unique),
-        Field::Nil => false,
-    }
-}
 
 // The same reference, STICKY; nil stays nil.
 pub fn made_sticky(field: Field) -> Field
@@ -37,11 +29,17 @@ pub fn made_sticky(field: Field) -> Field
 }
 
 impl Record {
-    // Whether there is no room for a cell in a hand: nothing is listed, the mark is at the size, the hand is not UNIQUE.
-    fn is_full(&self, h: u16) -> bool
-        ensures { result ≡ full (view self.now) h }
+    // Refuses a new cell in a hand for want of room: nothing is listed, the mark is at the size, the hand is not UNIQUE.
+    fn room(&self, h: u16) -> Result<(), Cause>
+        ensures { result ≡ place_answer (view self.now) h }
     {
-        self.free.is_empty() && self.mark >= self.size && !is_unique(self.hand(h))
+        if self.free.is_empty()
+            && self.mark >= self.size
+            && !matches!(self.hand(h), Field::To(r) if r.tag == Tag::Unique)
+        {
+            return Err(Cause::NoRoom);
+        }
+        Ok(())
     }
 
     // Puts a field into a hand; the store works from then on.
@@ -49,8 +47,17 @@ impl Record {
         requires { past (view self.old).size field ≡ false }
         ensures { view self.new ≡ changed (view self.old) h field }
     {
-        let _ = self.put_hand(h, field);
+        self.hands.set(h as usize, field);
         self.mode = Mode::Working;
+    }
+
+    // Lets go of what a hand holds, and puts a field into it.
+    pub(crate) fn replace(&mut self, h: u16, field: Field)
+        requires { past (view self.old).size field ≡ false }
+        ensures { view self.new ≡ changed (field_let_go (view self.old) (hand_of (view self.old) h)) h field }
+    {
+        self.let_go(self.hand(h));
+        self.change(h, field);
     }
 
     // Takes the top of the list, and lets go of what a pair in that cell held; or the mark, where nothing is listed.
@@ -65,9 +72,12 @@ impl Record {
             self.mark += 1;
             return at;
         };
-        if let Cell::Pair { left, right } = cell_at(bank, at) {
-            self.let_go(left);
-            self.let_go(right);
+        match cell_at(bank, at) {
+            Cell::Pair { left, right } => {
+                self.let_go(left);
+                self.let_go(right);
+            }
+            Cell::Blank | Cell::Leaf(_) | Cell::Moved { .. } => {}
         }
         at
     }
@@ -82,13 +92,11 @@ impl Record {
         requires { storable V.lawful cell.now ≡ true }
         ensures answer { result ≡ place_answer (view self.old) h }
         ensures after { state_at (view self.new) (B.cells bank.new) ≡ placed_state (view self.old) (B.cells bank.old) h cell.now }
+        ensures refused { OnErr result ((full (view self.old) h ≡ true) × (state_at (view self.new) (B.cells bank.new) ≡ state_at (view self.old) (B.cells bank.old))) }
         ensures rooted { B.root bank.new ≡ B.root bank.old }
     {
-        if self.is_full(h) {
-            return Err(Cause::NoRoom);
-        }
-        let held = self.hand(h);
-        self.let_go(held);
+        self.room(h)?;
+        self.let_go(self.hand(h));
         let address = self.take(bank);
         let _ = bank.put(address, cell);
         self.change(

@@ -1,8 +1,8 @@
 // What the calls ask before they change anything: whether a bank and hands are admitted, and which pair a hand refers to.
-ghost use Rattle.std.specs.Prelude.{◌≡◌};
+ghost use Rattle.std.specs.Prelude.{◌≡◌, IfOk, IfErr, slice_set};
 ghost use Rattle.store.specs.Model.{hand_of};
 ghost use Rattle.store.specs.Record.{view};
-ghost use Rattle.store.specs.Parts.{admitted, target_of, side_in, with_in};
+ghost use Rattle.store.specs.Parts.{admitted, target_of, side_in, with_in, Aims, Misses};
 
 use crate::Mode;
 use crate::record::Record;
@@ -44,6 +44,14 @@ impl Target {
             },
         }
     }
+
+    // Sets one side of the pair in the bank.
+    pub(crate) fn put<V: LeafKind, B: Bank<V>>(self, bank: &mut B, side: Side, field: Field)
+        ensures after { B.cells bank.new ≡ slice_set (B.cells bank.old) self.address (with_in side field self) }
+        ensures rooted { B.root bank.new ≡ B.root bank.old }
+    {
+        let _ = bank.put(self.address, &self.with(side, field));
+    }
 }
 
 impl Record {
@@ -65,7 +73,9 @@ impl Record {
 
     // The pair that a hand refers to.
     pub fn target<V: LeafKind, B: Bank<V>>(&self, bank: &B, g: u16) -> Result<Target, Cause>
-        ensures { result ≡ target_of (view self.now).mark (B.cells bank.now) (hand_of (view self.now) g) }
+        ensures answer { result ≡ target_of (view self.now).mark (B.cells bank.now) (hand_of (view self.now) g) }
+        ensures aims { IfOk result (Aims (view self.now).mark (B.cells bank.now) (hand_of (view self.now) g)) }
+        ensures misses { IfErr result (Misses (view self.now).mark (B.cells bank.now) (hand_of (view self.now) g)) }
     {
         let Field::To(r) = self.hand(g) else {
             return Err(Cause::NilHand);

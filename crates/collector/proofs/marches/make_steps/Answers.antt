@@ -1,34 +1,21 @@
-use Rattle.std.proofs.Common.{◌≡◌, suc, ◌+◌, ◌-◌, ◌∙◌, arith}
-use Rattle.store.specs.Record.{view}
-use Rattle.collector.specs.Visits.{banks_at}
+use Rattle.std.proofs.Common.{Err, ◌≡◌, suc, ◌+◌, ◌-◌, sym, ap, ◌∙◌, arith}
+use Rattle.std.proofs.lemmas.Result.{err_from_is_err_and}
 use Rattle.collector.proofs.Marching.{all_made, none_left, spoiled_there, one_made}
 use Rattle.collector.proofs.marches.make_steps.Goals as goal
 
-pub returns-in-Finished : goal.returns-in-Finished
-returns-in-Finished g c =
-    let first = banks_at (view c.args.store.now) (g.O.Bank.cells c.args.old.now) (g.N.Bank.cells c.args.new.now) in
-    let now = banks_at (view c.loop-made.store) (g.O.Bank.cells c.loop-made.old) (g.N.Bank.cells c.loop-made.new) in
-    let k = c.args.most - c.loop-made.made in
-    let j = c.args.most - (c.loop-made.made + 1) in
-    let some : k ≡ suc j = omega arith in
-    let e = none_left c.args.most first k now c.loop-made.invariant.0 j _ some c.in-Finished.ensures.outcome c.step.ensures.after in
-    record {
-      broken = e.0;
-      after = e.1;
-      old_rooted = c.step.ensures.old_rooted ∙ c.loop-made.invariant.1;
-      new_rooted = c.step.ensures.new_rooted ∙ c.loop-made.invariant.2;
-    }
+pub returns-in_default : goal.returns-in_default
+returns-in_default g c =
+    let some : c.args.most - c.loop-made.made ≡ suc (c.args.most - (c.loop-made.made + 1)) = omega arith in
+    let e = none_left _ _ _ _ c.loop-made.invariant.0 _ some (sym c.next_place.ensures ∙ c.in_default.is) in
+    record { answer = e.0; after = e.1; old_rooted = c.loop-made.invariant.1; new_rooted = c.loop-made.invariant.2 }
 
-pub returns-in-Spoiled : goal.returns-in-Spoiled
-returns-in-Spoiled g c =
-    let first = banks_at (view c.args.store.now) (g.O.Bank.cells c.args.old.now) (g.N.Bank.cells c.args.new.now) in
-    let now = banks_at (view c.loop-made.store) (g.O.Bank.cells c.loop-made.old) (g.N.Bank.cells c.loop-made.new) in
-    let k = c.args.most - c.loop-made.made in
-    let j = c.args.most - (c.loop-made.made + 1) in
-    let some : k ≡ suc j = omega arith in
-    let e = spoiled_there c.args.most first k now c.loop-made.invariant.0 j _ some c.in-Spoiled.ensures.outcome c.step.ensures.after in
+pub returns-in_err-step : goal.returns-in_err-step
+returns-in_err-step g c =
+    let some : c.args.most - c.loop-made.made ≡ suc (c.args.most - (c.loop-made.made + 1)) = omega arith in
+    let e = spoiled_there _ _ _ _ c.loop-made.invariant.0 _ _ some (sym c.in-Some.ensures) _ _ c.in_err-step.ensures.went in
+    let p = err_from_is_err_and c.from_residual.result c.from_residual.ensures.1 in
     record {
-      broken = e.0;
+      answer = p.1 ∙ ap Err p.2 ∙ e.0;
       after = e.1;
       old_rooted = c.step.ensures.old_rooted ∙ c.loop-made.invariant.1;
       new_rooted = c.step.ensures.new_rooted ∙ c.loop-made.invariant.2;
@@ -36,21 +23,14 @@ returns-in-Spoiled g c =
 
 pub loop-made-preserved : goal.loop-made-preserved
 loop-made-preserved g c =
-    let first = banks_at (view c.args.store.now) (g.O.Bank.cells c.args.old.now) (g.N.Bank.cells c.args.new.now) in
-    let now = banks_at (view c.loop-made.store) (g.O.Bank.cells c.loop-made.old) (g.N.Bank.cells c.loop-made.new) in
-    let k = c.args.most - c.loop-made.made in
-    let j = c.args.most - (c.loop-made.made + 1) in
-    let some : k ≡ suc j = omega arith in (
-      one_made c.args.most first k now c.loop-made.invariant.0 j _ some c.in-Stepped.ensures.outcome c.step.ensures.after,
+    let some : c.args.most - c.loop-made.made ≡ suc (c.args.most - (c.loop-made.made + 1)) = omega arith in (
+      one_made _ _ _ _ c.loop-made.invariant.0 _ _ some (sym c.in-Some.ensures) _ _ c.in_ok-step.ensures.went,
       c.step.ensures.old_rooted ∙ c.loop-made.invariant.1,
       c.step.ensures.new_rooted ∙ c.loop-made.invariant.2,
     )
 
 pub returns : goal.returns
 returns g c =
-    let first = banks_at (view c.args.store.now) (g.O.Bank.cells c.args.old.now) (g.N.Bank.cells c.args.new.now) in
-    let now = banks_at (view c.loop-made.store) (g.O.Bank.cells c.loop-made.old) (g.N.Bank.cells c.loop-made.new) in
-    let k = c.args.most - c.loop-made.made in
-    let none : k ≡ 0 = omega arith in
-    let e = all_made c.args.most first k now c.loop-made.invariant.0 none in
-    record { broken = e.0; after = e.1; old_rooted = c.loop-made.invariant.1; new_rooted = c.loop-made.invariant.2 }
+    let none : c.args.most - c.loop-made.made ≡ 0 = omega arith in
+    let e = all_made _ _ _ _ c.loop-made.invariant.0 none in
+    record { answer = e.0; after = e.1; old_rooted = c.loop-made.invariant.1; new_rooted = c.loop-made.invariant.2 }

@@ -1,20 +1,16 @@
-use Rattle.std.proofs.Common.{sym}
-use Rattle.store.specs.Record.{view}
-use Rattle.collector.proofs.Stepping.{made_step, lost_step}
+use Rattle.std.proofs.Common.{arith}
+use Rattle.std.proofs.lemmas.Grind.{common_steps}
+use Rattle.collector.specs.Steps.{stepped}
 use Rattle.collector.proofs.steps.step.Goals as goal
 
-pub returns-in-Ok : goal.returns-in-Ok
-returns-in-Ok g c =
-    let m = view c.args.store.now in
-    let olds = g.O.Bank.cells c.args.old.now in
-    let news = g.N.Bank.cells c.args.new.now in
-    let x = made_step m c.in-Collecting.steps c.in-Collecting.copied c.in-Collecting.marks (sym c.in-Collecting.ensures.value) c.if-steps-copied.false olds news _ c.in-Ok.field-0 c.in-Ok.ensures.went in
-    record { outcome = x.0; after = x.1; old_rooted = c.visit_next.ensures.old_rooted; new_rooted = c.visit_next.ensures.new_rooted }
+pub returns-in_err-cell-clause-went : goal.returns-in_err-cell-clause-went
+unfolding stepped
+returns-in_err-cell-clause-went g c = record { answer = grind (arith, common_steps); after = grind (arith, common_steps) }
 
-pub returns-in-Err : goal.returns-in-Err
-returns-in-Err g c =
-    let m = view c.args.store.now in
-    let olds = g.O.Bank.cells c.args.old.now in
-    let news = g.N.Bank.cells c.args.new.now in
-    let x = lost_step m c.in-Collecting.steps c.in-Collecting.copied c.in-Collecting.marks (sym c.in-Collecting.ensures.value) c.if-steps-copied.false olds news _ _ c.in-Err.ensures.went in
-    record { outcome = x.0; after = x.1; old_rooted = c.visit_next.ensures.old_rooted; new_rooted = c.visit_next.ensures.new_rooted }
+pub returns-in-Nil-clause-went : goal.returns-in-Nil-clause-went
+unfolding stepped
+returns-in-Nil-clause-went g c = record { answer = grind (arith, common_steps); after = grind (arith, common_steps) }
+
+pub returns-in-To-clause-went : goal.returns-in-To-clause-went
+unfolding stepped
+returns-in-To-clause-went g c = record { answer = grind (arith, common_steps); after = grind (arith, common_steps) }
