@@ -1,7 +1,6 @@
 -- The first that is found at the numbers below one, a number more; and what the passes find at a hand, a cell and a tag.
-use Rattle.std.proofs.Common.{◌≡◌, ℕ, zero, suc, ◌+◌, ◌-◌, ◌*◌, ◌<◌, ◌≤◌, true, false, cond, ltb, leb, List, length, get_or, take, drop, Some, None, Option, sym, refl, ap, ◌∙◌, ap₂, ⊎_elim, arith}
-use Rattle.std.proofs.lemmas.List.{take_rest}
-use Rattle.std.proofs.lemmas.Bool.{cases_eq}
+use Rattle.std.proofs.Common.{◌≡◌, ℕ, zero, suc, ◌+◌, ◌*◌, ◌<◌, ◌≤◌, ltb, leb, List, length, get_or, drop, Some, None, Option, sym, refl, ap, ◌∙◌, ap₂, ⊎_elim, arith}
+use Rattle.std.proofs.lemmas.Bool.{cases_eq, cases_Bool}
 use Rattle.std.proofs.lemmas.Bool.Decides.{nat_tests}
 use Rattle.cells.specs.declared.Field.{Field}
 use Rattle.cells.specs.declared.Field.TheVariants.{Nil, To}
@@ -13,10 +12,9 @@ use Rattle.images.specs.declared.faults.Place.{Place}
 use Rattle.images.specs.declared.faults.Place.TheVariants.{Cell as Of}
 use Rattle.images.specs.declared.faults.Flaw.{Flaw}
 use Rattle.images.specs.declared.faults.Fault.{Fault}
-use Rattle.images.specs.declared.faults.Fault.TheVariants.{TooShort}
 use Rattle.images.specs.declared.surveys.Survey.{Survey}
-use Rattle.images.specs.Layout.{stored_hand, stored_cell, held, kind_in, count_in}
-use Rattle.images.specs.Faults.{number_of, misheaded}
+use Rattle.images.specs.Layout.{stored_hand, stored_cell, held, count_in}
+use Rattle.images.specs.Faults.{number_of, headed}
 use Rattle.images.specs.First.{or_else, first, misstep, too_early, hand_step, node_step, cell_step, references, tag_step, hand_flaw, cell_flaw, tag_flaw, cell_tags, first_flaw, flawed, first_fault}
 use Rattle.images.specs.Surveys.{Surveyed, mistag, Kept}
 
@@ -86,24 +84,12 @@ module _ {V : Type 0} (taken : ℕ → Option V) (rest : List ℕ) (r : ℕ) (j 
   pub right_tag : (o : Option Flaw) → None ≡ tag_flaw taken rest r (Of Left j) → o ≡ tag_flaw taken rest r (Of Right j) → o ≡ cell_tags taken rest r j
   right_tag o ok e = e ∙ sym (ap (λ w. or_else w (tag_flaw taken rest r (Of Right j))) (sym ok))
 
--- the parts of the first fault, by what the heading and the survey of the rest say
-module _ {V : Type 0} (taken : ℕ → Option V) (number : ℕ) (bytes : List ℕ) where
-  abbrev after : Option Fault → Option Flaw → Option Fault
-  after heading flaw = or_else heading (flawed flaw)
+-- the first fault is the heading's, if it has one, and else that of hands and cells
+pub first_headed : {V : Type 0} (taken : ℕ → Option V) (number : ℕ) (bytes : List ℕ) (o : Option Fault) → o ≡ headed number bytes → or_else o (flawed (first_flaw taken (drop 4 bytes) (count_in bytes))) ≡ first_fault taken number bytes
+first_headed taken number bytes o e =
+    ap (λ h. or_else h (flawed (first_flaw taken (drop 4 bytes) (count_in bytes)))) e
+    ∙ ⊎_elim (λ t. rw t) (λ t. rw t) (cases_Bool (ltb (length bytes) 4))
 
-  pub short_first : length bytes < 4 → first_fault taken number bytes ≡ Some TooShort
-  short_first short =
-      let z : ltb (length bytes) 4 ≡ true = grind (arith, nat_tests) in
-      ap (λ b. cond b (Some TooShort) (after (misheaded (kind_in bytes) number (count_in bytes) (length bytes)) (first_flaw taken (drop 4 bytes) (count_in bytes)))) z
-
-  headed_first : 4 ≤ length bytes → (o : Option Fault) → misheaded (kind_in bytes) number (count_in bytes) (length bytes) ≡ o → first_fault taken number bytes ≡ after o (first_flaw taken (drop 4 bytes) (count_in bytes))
-  headed_first long o e =
-      let z : ltb (length bytes) 4 ≡ false = grind (arith, nat_tests) in
-      ap₂ (λ b h. cond b (Some TooShort) (after h (first_flaw taken (drop 4 bytes) (count_in bytes)))) z e
-
-  pub heading_first : 4 ≤ length bytes → (fault : Fault) → misheaded (kind_in bytes) number (count_in bytes) (length bytes) ≡ Some fault → first_fault taken number bytes ≡ Some fault
-  heading_first long fault e = headed_first long (Some fault) e
-
-  pub flaw_first : 4 ≤ length bytes → {count : ℕ} (o : Option Flaw) → count ≡ count_in bytes → o ≡ first_flaw taken (take (length bytes - 4) (drop 4 bytes)) count → misheaded (kind_in bytes) number (count_in bytes) (length bytes) ≡ None → first_fault taken number bytes ≡ flawed o
-  flaw_first long {count} o n f e =
-      headed_first long None e ∙ ap flawed (sym (f ∙ ap₂ (λ rest r. first_flaw taken rest r) (take_rest bytes 4) n))
+pub first_surveyed : {V : Type 0} (taken : ℕ → Option V) (number : ℕ) (bytes : List ℕ) {rest : List ℕ} {r : ℕ} (o : Option Flaw) → rest ≡ drop 4 bytes → r ≡ count_in bytes → None ≡ headed number bytes → o ≡ first_flaw taken rest r → flawed o ≡ first_fault taken number bytes
+first_surveyed taken number bytes o here n e f =
+    ap flawed (f ∙ ap₂ (λ rest r. first_flaw taken rest r) here n) ∙ first_headed taken number bytes None e

@@ -1,5 +1,6 @@
 -- One more place, hand or cell: what the survey knows after it, and which rules hold up to there.
-use Rattle.std.proofs.Common.{◌≡◌, ℕ, suc, ◌+◌, ◌*◌, ◌<◌, ◌≤◌, min, true, false, leb, ◌↔◌, List, length, get_or, set, is_some, Some, None, Decides, Option, sym, refl, ap, ◌∙◌, subst, ⊎_elim, arith}
+use Rattle.std.proofs.Common.{◌≡◌, ℕ, suc, ◌+◌, ◌*◌, ◌<◌, ◌≤◌, min, true, false, leb, ◌↔◌, List, length, get_or, set, is_some, Some, None, Ok, Err, OnOk, Decides, Option, Result, sym, refl, ap, ◌∙◌, subst, ⊎_elim, arith}
+use Rattle.std.specs.Result.{result_err}
 use Rattle.std.proofs.lemmas.List.{length-set, get_or-set_same, get_or-set_other}
 use Rattle.std.proofs.lemmas.Bool.Decides.{nat_tests, not_from_Decides}
 use Rattle.std.proofs.lemmas.Bool.{cases_eq, cases_Bool}
@@ -171,13 +172,13 @@ module _ {V : Type 0} (taken : ℕ → Option V) (rest : List ℕ) (r : ℕ) whe
   tagged_next p n next before here = below_next (λ q x. (x.tag ≡ Sticky) ↔ Another (held taken rest r) q x.address) p n (sym next) before here
 
   -- the first pass, at the right side of a cell whose left side is read
-  pub cell_read : (j : ℕ) (c : Cell V) (m : ℕ) (s s' : Survey) → j < r → c ≡ stored_cell taken rest j → is_node c ≡ true → Kept taken rest r (16 + 2 * j) → None ≡ too_early j m → m ≡ met (held taken rest r) (16 + 2 * j) → None ≡ misstep (Of Left j) (field_of Left c) r m → Surveyed (held taken rest r) (17 + 2 * j) s → (o : Option Flaw) → o ≡ misstep (Of Right j) (field_of Right c) r s.met → (o ≡ None → s'.met ≡ meeting s.met (field_of Right c)) → (o ≡ None → s'.references ≡ noted s.references (field_of Right c)) → ReadTo taken rest r (18 + 2 * j) s' o
-  cell_read j c m s s' h e node K early is ok S None o meets tally =
+  pub cell_read : (j : ℕ) (c : Cell V) (m : ℕ) (s s' : Survey) → j < r → c ≡ stored_cell taken rest j → is_node c ≡ true → Kept taken rest r (16 + 2 * j) → None ≡ too_early j m → m ≡ met (held taken rest r) (16 + 2 * j) → None ≡ misstep (Of Left j) (field_of Left c) r m → Surveyed (held taken rest r) (17 + 2 * j) s → {T : Type 0} (o : Result T Flaw) → result_err o ≡ misstep (Of Right j) (field_of Right c) r s.met → OnOk o (s'.met ≡ meeting s.met (field_of Right c)) → OnOk o (s'.references ≡ noted s.references (field_of Right c)) → ReadTo taken rest r (18 + 2 * j) s' (result_err o)
+  cell_read j c m s s' h e node K early is ok S (Ok t) o meets tally =
       let fine : j < m = grind (arith, nat_tests) in (
         kept_cell j (18 + 2 * j) c m s.met refl h e node K fine is S.meets ok o,
-        surveyed_step (held taken rest r) (17 + 2 * j) (18 + 2 * j) s s' (field_of Right c) (omega arith) S (side_field Right j c h e) (meets refl) (tally refl),
+        surveyed_step (held taken rest r) (17 + 2 * j) (18 + 2 * j) s s' (field_of Right c) (omega arith) S (side_field Right j c h e) meets tally,
       )
-  cell_read j c m s s' h e node K early is ok S (Some flaw) o meets tally =
+  cell_read j c m s s' h e node K early is ok S (Err flaw) o meets tally =
       misstep_breaks (Of Right j) (field_of Right c) s.met flaw (omega arith) (side_field Right j c h e) S.meets o
 
   -- the second pass, at a place that holds nothing
