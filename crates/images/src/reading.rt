@@ -1,5 +1,5 @@
 // The hands and cells of an image: sixteen hands of four bytes and so many cells of nine, which follow four bytes of heading.
-ghost use Rattle.std.specs.Prelude.{◌≡◌, ◌+◌, ◌*◌, ◌<◌, ◌≤◌, length, drop, IfOk};
+ghost use Rattle.std.specs.Prelude.{◌≡◌, ◌+◌, ◌*◌, ◌<◌, ◌≤◌, length, take, drop, IfOk};
 ghost use Rattle.std.specs.Result.{result_err};
 ghost use Rattle.images.specs.Layout.{count_in, stored_hand, stored_cell};
 ghost use Rattle.images.specs.Faults.{misheaded, headed};
@@ -9,13 +9,20 @@ use cells::leaves::LeafKind;
 use cells::{Cell, Field};
 use packing::{unpack_cell, unpack_field};
 
+// As many bytes as are wanted, from an offset on.
+fn part<const N: usize>(bytes: &[u8], at: usize) -> [u8; N]
+    requires { at + N ≤ length bytes.now }
+    ensures { result ≡ take N (drop at bytes.now) }
+{
+    *bytes[at..].first_chunk().unwrap()
+}
+
 // The hand that stands at an index in what follows the heading.
 pub fn hand_at(rest: &[u8], i: u8) -> Option<Field>
     requires { 4 * i + 4 ≤ length rest.now }
     ensures { result ≡ stored_hand rest.now i }
 {
-    let p = 4 * i as usize;
-    unpack_field(u32::from_be_bytes([rest[p], rest[p + 1], rest[p + 2], rest[p + 3]]))
+    unpack_field(u32::from_be_bytes(part(rest, 4 * i as usize)))
 }
 
 // And the cell.
@@ -23,18 +30,7 @@ pub fn cell_at<V: LeafKind>(rest: &[u8], j: u16) -> Cell<V>
     requires { 64 + 9 * j + 9 ≤ length rest.now }
     ensures { result ≡ stored_cell V.taken rest.now j }
 {
-    let p = 64 + 9 * j as usize;
-    unpack_cell([
-        rest[p],
-        rest[p + 1],
-        rest[p + 2],
-        rest[p + 3],
-        rest[p + 4],
-        rest[p + 5],
-        rest[p + 6],
-        rest[p + 7],
-        rest[p + 8],
-    ])
+    unpack_cell(part(rest, 64 + 9 * j as usize))
 }
 
 // What is wrong with a kind's number, a number of cells or a length.
