@@ -21,7 +21,7 @@ fn hands_in(body: &Body) -> [Field; 16]
     array::from_fn(|i| body.hand(i as u8).unwrap_or(Field::Nil))
 }
 
-// Puts the cells of an image at the front of the bank.
+// Puts the cells of an image at the front of the bank, which takes them one by one, by address.
 fn put_cells<V: LeafKind, B: Bank<V>>(bank: &mut B, body: &Body)
     requires room { body.now.count ≤ length (B.cells bank.old) }
     requires storables { (j : ℕ) → j < body.now.count → storable V.lawful (stored_cell V.taken body.now.bytes.now j) ≡ true }

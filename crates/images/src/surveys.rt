@@ -79,7 +79,7 @@ impl Survey {
         }
     }
 
-    // The first pass, over the hands. An index is part of the place that a flaw names.
+    // The first pass, over the hands. It goes by index, here and below, since a flaw names its place by one.
     fn read_hands<V: LeafKind>(&mut self, body: &Body) -> Result<(), Flaw>
         requires { Surveyed (held V.taken body.now.bytes.now body.now.count) 0 self.old }
         ensures kept { ReadTo V.taken body.now.bytes.now body.now.count 16 self.new (result_err result) }

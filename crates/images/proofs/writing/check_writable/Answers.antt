@@ -3,7 +3,7 @@ use Rattle.store.specs.Model.{is_collecting}
 use Rattle.store.specs.Record.{view}
 use Rattle.images.specs.Writing.{is_working, all_nodes, write_cause}
 use Rattle.images.proofs.Written.{not_collecting, not_working, row_collecting, row_spoiled, row_working, row_short, row_none}
-use Rattle.images.proofs.writing.refusal.Goals as goal
+use Rattle.images.proofs.writing.check_writable.Goals as goal
 
 pub returns-then-size : goal.returns-then-size
 unfolding write_cause
