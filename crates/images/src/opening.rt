@@ -2,7 +2,7 @@
 ghost use Rattle.std.specs.Prelude.{◌≡◌, ℕ, ◌<◌, ◌≤◌, true, ◌++◌, length, drop};
 ghost use Rattle.cells.specs.Banks.{storable};
 ghost use Rattle.store.specs.Record.{viewed};
-ghost use Rattle.images.specs.Layout.{stored_hands, stored_cell, stored_cells};
+ghost use Rattle.images.specs.Layout.{stored_hand, or_nil, stored_hands, stored_cell, stored_cells};
 ghost use Rattle.images.specs.Opening.{Opened, Rebuilt, WrittenBack};
 
 use crate::read;
@@ -14,11 +14,18 @@ use cells::leaves::LeafKind;
 use std::array;
 use store::record::Record;
 
-// The hands of an image.
+// The hand with an index, nil where its bytes are no field.
+fn hand_in(body: &Body, i: u8) -> Field
+    requires { i < 16 }
+    ensures { result ≡ or_nil (stored_hand body.now.bytes.now i) }
+{
+    body.hand(i).unwrap_or(Field::Nil)
+}
+
 fn hands_in(body: &Body) -> [Field; 16]
     ensures { result ≡ stored_hands body.now.bytes.now }
 {
-    array::from_fn(|i| body.hand(i as u8).unwrap_or(Field::Nil))
+    array::from_fn(|i| hand_in(body, i as u8))
 }
 
 // Puts the cells of an image at the front of the bank, which takes them one by one, by address.
