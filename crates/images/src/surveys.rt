@@ -1,12 +1,14 @@
 // One pass over the places reads every field in visiting order, and counts references; another compares tags with the counts.
-ghost use Rattle.std.specs.Prelude.{◌≡◌, ◌+◌, ◌*◌, ◌<◌, ◌≤◌, Some, None, OnOk};
+ghost use Rattle.std.specs.Prelude.{◌≡◌, ℕ, ◌+◌, ◌*◌, ◌<◌, ◌≤◌, List, MatchResult, OnOk, Option};
 ghost use Rattle.std.specs.Result.{result_err};
 ghost use Rattle.cells.specs.declared.Reference.{Reference as Referred};
 ghost use Rattle.cells.specs.declared.Field.TheVariants.{To as Refers};
 ghost use Rattle.graph.specs.Places.{meeting};
+ghost use Rattle.images.specs.declared.faults.Flaw.{Flaw as Flawed};
 ghost use Rattle.images.specs.Layout.{held};
-ghost use Rattle.images.specs.First.{first, misstep, too_early, hand_flaw, cell_flaw, hand_tag, cell_tags, first_flaw};
-ghost use Rattle.images.specs.Surveys.{Surveyed, noted, mistag, ReadTo, TaggedTo, Surveys};
+ghost use Rattle.images.specs.Faults.{Broken};
+ghost use Rattle.images.specs.First.{or_else, first, misstep, too_early, hand_flaw, cell_flaw, hand_tag, cell_tags, first_flaw};
+ghost use Rattle.images.specs.Surveys.{Surveyed, noted, mistag, Kept, Tagged, Surveys};
 
 use crate::faults::{Flaw, Place};
 use crate::reading::Body;
@@ -78,27 +80,60 @@ impl Survey {
             Err(Flaw::WrongTag(place, r))
         }
     }
+}
 
-    // The first pass, over the hands. It goes by index, here and below, since a flaw names its place by one.
-    fn read_hands<V: LeafKind>(&mut self, body: &Body) -> Result<(), Flaw>
-        requires { Surveyed (held V.taken body.now.bytes.now body.now.count) 0 self.old }
-        ensures kept { ReadTo V.taken body.now.bytes.now body.now.count 16 self.new (result_err result) }
-        ensures flaw { result_err result ≡ first (hand_flaw V.taken body.now.bytes.now body.now.count) 16 }
-    {
-        for i in 0..16 {
-            let field = body.hand(i).ok_or(Flaw::BadHand(i))?;
-            self.visit(Place::Hand(i), field, body.count)?;
-        }
-        Ok(())
+// A pass over the hands and cells of an image, in visiting order.
+trait Pass<V: LeafKind> {
+    // what holds once it is past the places below a number
+    ghost past: { Self → List ℕ → ℕ → ℕ → Type 0 };
+
+    // the flaw of a hand, and of a cell
+    ghost hand_flaw: { List ℕ → ℕ → ℕ → Option Flawed };
+
+    ghost cell_flaw: { List ℕ → ℕ → ℕ → Option Flawed };
+
+    fn at_hand(&mut self, body: &Body, i: u8) -> Result<(), Flaw>
+        requires within { i < 16 }
+        requires before { past self.old body.now.bytes.now body.now.count i }
+        ensures kept { MatchResult result (λ _. past self.new body.now.bytes.now body.now.count (i + 1)) (Broken V.taken body.now.bytes.now body.now.count) }
+        ensures flaw { result_err result ≡ hand_flaw body.now.bytes.now body.now.count i };
+
+    fn at_cell(&mut self, body: &Body, j: u16) -> Result<(), Flaw>
+        requires within { j < body.now.count }
+        requires before { past self.old body.now.bytes.now body.now.count (16 + 2 * j) }
+        ensures kept { MatchResult result (λ _. past self.new body.now.bytes.now body.now.count (18 + 2 * j)) (Broken V.taken body.now.bytes.now body.now.count) }
+        ensures flaw { result_err result ≡ cell_flaw body.now.bytes.now body.now.count j };
+}
+
+// A loop goes by index, since a flaw names its place by one.
+fn run<V: LeafKind, P: Pass<V>>(pass: &mut P, body: &Body) -> Result<(), Flaw>
+    requires { P.past pass.old body.now.bytes.now body.now.count 0 }
+    ensures kept { MatchResult result (λ _. P.past pass.new body.now.bytes.now body.now.count (16 + 2 * body.now.count)) (Broken V.taken body.now.bytes.now body.now.count) }
+    ensures flaw { result_err result ≡ or_else (first (P.hand_flaw body.now.bytes.now body.now.count) 16) (first (P.cell_flaw body.now.bytes.now body.now.count) body.now.count) }
+{
+    for i in 0..16 {
+        pass.at_hand(body, i)?;
+    }
+    for j in 0..body.count {
+        pass.at_cell(body, j)?;
+    }
+    Ok(())
+}
+
+// The first pass. That all cells are met is no test of its own: the last is met before it is read.
+impl<V: LeafKind> Pass<V> for Survey {
+    ghost past = { λ survey rest r p. Kept V.taken rest r p × Surveyed (held V.taken rest r) p survey };
+
+    ghost hand_flaw = { hand_flaw V.taken };
+
+    ghost cell_flaw = { cell_flaw V.taken };
+
+    fn at_hand(&mut self, body: &Body, i: u8) -> Result<(), Flaw> {
+        let field = body.hand(i).ok_or(Flaw::BadHand(i))?;
+        self.visit(Place::Hand(i), field, body.count)
     }
 
-    // Reads one more cell.
-    fn read_cell<V: LeafKind>(&mut self, body: &Body, j: u16) -> Result<(), Flaw>
-        requires next { j < body.now.count }
-        requires before { ReadTo V.taken body.now.bytes.now body.now.count (16 + 2 * j) self.old None }
-        ensures kept { ReadTo V.taken body.now.bytes.now body.now.count (18 + 2 * j) self.new (result_err result) }
-        ensures flaw { result_err result ≡ cell_flaw V.taken body.now.bytes.now body.now.count j }
-    {
+    fn at_cell(&mut self, body: &Body, j: u16) -> Result<(), Flaw> {
         self.check_met(j)?;
         match body.cell::<V>(j) {
             Cell::Pair { left, right } => {
@@ -109,59 +144,34 @@ impl Survey {
             Cell::Blank | Cell::Moved { .. } => Err(Flaw::BadCell(j)),
         }
     }
+}
 
-    // The first pass, over the cells. That all cells are met is no test of its own: the last is met before it is read.
-    fn read_cells<V: LeafKind>(&mut self, body: &Body) -> Result<(), Flaw>
-        requires { ReadTo V.taken body.now.bytes.now body.now.count 16 self.old None }
-        ensures kept { ReadTo V.taken body.now.bytes.now body.now.count (16 + 2 * body.now.count) self.new (result_err result) }
-        ensures flaw { result_err result ≡ first (cell_flaw V.taken body.now.bytes.now body.now.count) body.now.count }
-    {
-        for j in 0..body.count {
-            self.read_cell::<V>(body, j)?;
+// The second pass, with the survey that the first one left.
+#[derive(Drop)]
+struct Tags<'a> {
+    survey: &'a Survey,
+}
+
+impl<V: LeafKind> Pass<V> for Tags<'_> {
+    ghost past = { λ tags rest r p. Kept V.taken rest r (16 + 2 * r) × Surveyed (held V.taken rest r) (16 + 2 * r) tags.survey.now × Tagged (held V.taken rest r) p };
+
+    ghost hand_flaw = { hand_tag V.taken };
+
+    ghost cell_flaw = { cell_tags V.taken };
+
+    fn at_hand(&mut self, body: &Body, i: u8) -> Result<(), Flaw> {
+        match body.hand(i) {
+            Some(field) => self.survey.check_tag(Place::Hand(i), field),
+            None => Ok(()),
         }
-        Ok(())
     }
 
-    // The second pass, over the hands.
-    fn check_hands<V: LeafKind>(&self, body: &Body) -> Result<(), Flaw>
-        requires { ReadTo V.taken body.now.bytes.now body.now.count (16 + 2 * body.now.count) self.now None }
-        ensures kept { TaggedTo V.taken body.now.bytes.now body.now.count 16 (result_err result) }
-        ensures flaw { result_err result ≡ first (hand_tag V.taken body.now.bytes.now body.now.count) 16 }
-    {
-        for i in 0..16 {
-            if let Some(field) = body.hand(i) {
-                self.check_tag(Place::Hand(i), field)?;
-            }
-        }
-        Ok(())
-    }
-
-    // The second pass, at one more cell.
-    fn check_cell<V: LeafKind>(&self, body: &Body, j: u16) -> Result<(), Flaw>
-        requires next { j < body.now.count }
-        requires read { ReadTo V.taken body.now.bytes.now body.now.count (16 + 2 * body.now.count) self.now None }
-        requires before { TaggedTo V.taken body.now.bytes.now body.now.count (16 + 2 * j) None }
-        ensures kept { TaggedTo V.taken body.now.bytes.now body.now.count (18 + 2 * j) (result_err result) }
-        ensures flaw { result_err result ≡ cell_tags V.taken body.now.bytes.now body.now.count j }
-    {
+    fn at_cell(&mut self, body: &Body, j: u16) -> Result<(), Flaw> {
         let Cell::Pair { left, right } = body.cell::<V>(j) else {
             return Ok(());
         };
-        self.check_tag(Place::Cell(Side::Left, j), left)?;
-        self.check_tag(Place::Cell(Side::Right, j), right)
-    }
-
-    // The second pass, over the cells.
-    fn check_cells<V: LeafKind>(&self, body: &Body) -> Result<(), Flaw>
-        requires read { ReadTo V.taken body.now.bytes.now body.now.count (16 + 2 * body.now.count) self.now None }
-        requires hands { TaggedTo V.taken body.now.bytes.now body.now.count 16 None }
-        ensures kept { TaggedTo V.taken body.now.bytes.now body.now.count (16 + 2 * body.now.count) (result_err result) }
-        ensures flaw { result_err result ≡ first (cell_tags V.taken body.now.bytes.now body.now.count) body.now.count }
-    {
-        for j in 0..body.count {
-            self.check_cell::<V>(body, j)?;
-        }
-        Ok(())
+        self.survey.check_tag(Place::Cell(Side::Left, j), left)?;
+        self.survey.check_tag(Place::Cell(Side::Right, j), right)
     }
 }
 
@@ -174,8 +184,6 @@ pub fn check_body<V: LeafKind>(body: &Body) -> Result<(), Flaw>
         met: 0,
         references: [0; 32768],
     };
-    survey.read_hands::<V>(body)?;
-    survey.read_cells::<V>(body)?;
-    survey.check_hands::<V>(body)?;
-    survey.check_cells::<V>(body)
+    run::<V, Survey>(&mut survey, body)?;
+    run::<V, Tags>(&mut Tags { survey: &survey }, body)
 }
