@@ -71,6 +71,7 @@ fn write_cells<V: LeafKind, B: Bank<V>>(bank: &B, count: u16, bytes: &mut [u8])
 }
 
 // Whether the image of the store can be written to so many bytes.
+#[tactic(auto, using(std::proofs::lemmas::Bool::Decides::nat_tests), unfolding(crate::specs::Writing::write_cause))]
 fn check_writable<V: LeafKind, B: Bank<V>>(
     record: &Record,
     bank: &B,
@@ -104,6 +105,7 @@ fn image_length(count: u16) -> usize
 }
 
 // Writes the image of the store to the front of the bytes and answers its length, or refuses and writes nothing.
+#[tactic(auto, using(crate::proofs::Written::none_tells))]
 pub fn write<V: LeafKind, B: Bank<V>>(
     record: &Record,
     bank: &B,

@@ -36,7 +36,7 @@ fn same_found<V: LeafKind>(x: Option<Cell<V>>, y: Option<Cell<V>>) -> bool
     x.as_ref().map(pack_cell) == y.as_ref().map(pack_cell)
 }
 
-// A loop, since the last address is the largest number of its type.
+// A loop and no `find`, whose lemmas are about ranges without their end: the last address is the largest number of its type.
 fn cell_apart<V: LeafKind>(a: &[u8], b: &[u8]) -> Option<u16>
     ensures { FirstApart (cell_of V.taken a.now) (cell_of V.taken b.now) 65536 result }
 {

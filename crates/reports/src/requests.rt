@@ -32,6 +32,7 @@ pub struct Request {
     pub task: Task,
 }
 
+// An Option, here and below: `FromStr` would need an error, which nobody would read.
 fn kind_of(word: &str) -> Option<Kind>
     ensures { Only (λ k. word.now ≡ kind_word k) result }
 {

@@ -58,7 +58,7 @@ impl Shared {
     }
 }
 
-// The shared cells among the first cells of an image.
+// The shared cells among the first cells of an image. Loops, since a fold would move the marks at each cell.
 pub fn shared_cells<V: LeafKind>(image: &[u8], count: u16) -> Shared
     ensures { result.marks ≡ marked_cells V.taken image.now count }
 {

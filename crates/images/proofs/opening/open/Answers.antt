@@ -1,6 +1,6 @@
-use Rattle.std.proofs.Common.{◌≡◌, true, ◌++◌, length, drop, Ok, Err, sym, refl, ap, ◌∙◌, subst, ⊎_elim, arith}
+use Rattle.std.proofs.Common.{◌≡◌, true, ◌++◌, length, drop, Ok, sym, refl, ap, ◌∙◌, subst, ⊎_elim, arith}
 use Rattle.std.proofs.lemmas.Result.{err_from_is_err_and}
-use Rattle.cells.specs.declared.causes.Cause.TheVariants.{SizeOutOfRange, NotAnImage, NoRoom}
+use Rattle.cells.specs.declared.causes.Cause.TheVariants.{NoRoom}
 use Rattle.cells.specs.Banks.{storable}
 use Rattle.store.specs.Record.{viewed}
 use Rattle.store.specs.Restoring.{settled_model, restored_model}
@@ -9,21 +9,13 @@ use Rattle.images.specs.Opening.{Allowed, Refused, size_out, no_image, no_room, 
 use Rattle.images.proofs.Reopened.{cells_storable, record_made, accepts, refuses}
 use Rattle.images.proofs.opening.open.Goals as goal
 
-pub returns-then-size-eq0 : goal.returns-then-size-eq0
-returns-then-size-eq0 g c =
-    let why : Refused g.V.LeafKind.lawful g.V.LeafKind.word g.V.LeafKind.taken g.V.LeafKind.number (length (g.B.Bank.cells c.args.bank.now)) c.args.image.now SizeOutOfRange = size_out (λ ok. ⊎_elim (λ e. omega (arith, ok.0, ok.1)) (λ e. omega (arith, ok.0, ok.1)) c.then-size-eq0.either) in
-    record { opened = (why, refl); rebuilt = refuses g.met.V.LeafKind.laws g.V.LeafKind.number c.args.image.now (g.B.Bank.cells c.args.bank.now) SizeOutOfRange why; rooted = refl }
+pub returns-then-size-eq0-clause-opened : goal.returns-then-size-eq0-clause-opened
+returns-then-size-eq0-clause-opened g c = (size_out (λ ok. ⊎_elim (λ e. omega (arith, ok.0, ok.1)) (λ e. omega (arith, ok.0, ok.1)) c.then-size-eq0.either), refl)
 
-pub returns-in_err-body : goal.returns-in_err-body
-returns-in_err-body g c =
+pub returns-in_err-body-clause-opened : goal.returns-in_err-body-clause-opened
+returns-in_err-body-clause-opened g c =
     let p = err_from_is_err_and c.from_residual.result c.from_residual.ensures.1 in
-    let is : viewed c.from_residual.result ≡ Err NotAnImage = ap viewed (p.1 ∙ ap Err (p.2 ∙ c.in_err-body.ensures.checked.0)) in
-    let why : Refused g.V.LeafKind.lawful g.V.LeafKind.word g.V.LeafKind.taken g.V.LeafKind.number (length (g.B.Bank.cells c.args.bank.now)) c.args.image.now NotAnImage = no_image (omega arith, omega arith) c.in_err-body.ensures.checked.1 in
-    record {
-      opened = subst (λ a. Opened g.V.LeafKind.lawful g.V.LeafKind.word g.V.LeafKind.taken g.V.LeafKind.number c.args.image.now (g.B.Bank.cells c.args.bank.now) a (g.B.Bank.cells c.args.bank.now)) (sym is) (why, refl);
-      rebuilt = subst (λ a. Rebuilt g.V.LeafKind.lawful g.V.LeafKind.word g.V.LeafKind.taken g.V.LeafKind.number c.args.image.now (g.B.Bank.cells c.args.bank.now) a (g.B.Bank.cells c.args.bank.now)) (sym is) (refuses g.met.V.LeafKind.laws g.V.LeafKind.number c.args.image.now (g.B.Bank.cells c.args.bank.now) NotAnImage why);
-      rooted = refl;
-    }
+    rw (p.1, p.2, c.in_err-body.ensures.checked.0) (no_image (omega arith, omega arith) c.in_err-body.ensures.checked.1, refl)
 
 pub returns-then-body-size : goal.returns-then-body-size
 returns-then-body-size g c =
@@ -31,13 +23,10 @@ returns-then-body-size g c =
     let why : Refused g.V.LeafKind.lawful g.V.LeafKind.word g.V.LeafKind.taken g.V.LeafKind.number (length (g.B.Bank.cells c.args.bank.now)) c.args.image.now NoRoom = no_room (omega arith, omega arith) c.in_ok-body.ensures.holds (omega arith) in
     record { opened = (why, refl); rebuilt = refuses g.met.V.LeafKind.laws g.V.LeafKind.number c.args.image.now (g.B.Bank.cells c.args.bank.now) NoRoom why; rooted = refl }
 
-pub put_cells-requires : goal.put_cells-requires
-put_cells-requires g c =
+pub put_cells-requires-clause-storables : goal.put_cells-requires-clause-storables
+put_cells-requires-clause-storables g c =
     let at = c.in_ok-body.ensures.rest in
-    record {
-      room = omega arith;
-      storables = λ j h. subst (λ rest. storable g.V.LeafKind.lawful (stored_cell g.V.LeafKind.taken rest j) ≡ true) (sym at.0) (cells_storable g.met.V.LeafKind.laws g.V.LeafKind.number c.args.image.now c.in_ok-body.ensures.holds j (omega arith));
-    }
+    λ j h. subst (λ rest. storable g.V.LeafKind.lawful (stored_cell g.V.LeafKind.taken rest j) ≡ true) (sym at.0) (cells_storable g.met.V.LeafKind.laws g.V.LeafKind.number c.args.image.now c.in_ok-body.ensures.holds j (omega arith))
 
 pub returns : goal.returns
 returns g c =

@@ -7,17 +7,6 @@ use Rattle.images.specs.Writing.{length_for, pasted}
 use Rattle.images.proofs.Written.{none_tells, accepted}
 use Rattle.images.proofs.writing.write.Goals as goal
 
-pub write_heading-requires : goal.write_heading-requires
-write_heading-requires g c = let t = none_tells (view c.args.record.now) (g.B.Bank.cells c.args.bank.now) (length c.args.bytes.now) c.in_ok-check_writable.ensures in omega arith
-
-pub write_hands-requires : goal.write_hands-requires
-write_hands-requires g c = let t = none_tells (view c.args.record.now) (g.B.Bank.cells c.args.bank.now) (length c.args.bytes.now) c.in_ok-check_writable.ensures in omega arith
-
-pub write_cells-requires : goal.write_cells-requires
-write_cells-requires g c =
-    let t = none_tells (view c.args.record.now) (g.B.Bank.cells c.args.bank.now) (length c.args.bytes.now) c.in_ok-check_writable.ensures in
-    record { held = omega arith; room = omega arith }
-
 pub returns : goal.returns
 returns g c =
     let t = none_tells (view c.args.record.now) (g.B.Bank.cells c.args.bank.now) (length c.args.bytes.now) c.in_ok-check_writable.ensures in
