@@ -25,7 +25,7 @@ pub fn hand_at(rest: &[u8], i: u8) -> Option<Field>
     unpack_field(u32::from_be_bytes(part(rest, 4 * i as usize)))
 }
 
-// And the cell.
+// The cell that stands at an address there.
 pub fn cell_at<V: LeafKind>(rest: &[u8], j: u16) -> Cell<V>
     requires { 64 + 9 * j + 9 ≤ length rest.now }
     ensures { result ≡ stored_cell V.taken rest.now j }
@@ -33,7 +33,7 @@ pub fn cell_at<V: LeafKind>(rest: &[u8], j: u16) -> Cell<V>
     unpack_cell(part(rest, 64 + 9 * j as usize))
 }
 
-// What is wrong with a kind's number, a number of cells or a length.
+// Refuses a kind's number, a number of cells or a length that no image of the wanted kind has.
 fn check_heading(kind: u16, wanted: u16, count: u16, size: usize) -> Result<(), Fault>
     ensures { result_err result ≡ misheaded kind wanted count size }
 {
