@@ -4,7 +4,7 @@ use Rattle.std.specs.List.{flat_map}
 use Rattle.std.proofs.lemmas.List.{append_assoc, take-append-drop, take_at, drop_at, drop-drop, nil_from_length, get_or-take, get_or-drop}
 use Rattle.images.specs.Layout.{two_bytes, four_bytes, two_at, four_at}
 
--- four and nine elements from p on, written out
+-- four elements from p on, written out
 pub four_listed : (bs : List ℕ) (p : ℕ) → p + 4 ≤ length bs → take 4 (drop p bs) ≡ get_or bs p 0 ∷ get_or bs (p + 1) 0 ∷ get_or bs (p + 2) 0 ∷ get_or bs (p + 3) 0 ∷ []
 four_listed bs p h =
     let s0 : drop p bs ≡ get_or bs p 0 ∷ drop (suc p) bs = drop-cons bs p 0 (omega arith) in
@@ -12,19 +12,6 @@ four_listed bs p h =
     let s2 : drop (suc (suc p)) bs ≡ get_or bs (suc (suc p)) 0 ∷ drop (suc (suc (suc p))) bs = drop-cons bs (suc (suc p)) 0 (omega arith) in
     let s3 : drop (suc (suc (suc p))) bs ≡ get_or bs (suc (suc (suc p))) 0 ∷ drop (suc (suc (suc (suc p)))) bs = drop-cons bs (suc (suc (suc p))) 0 (omega arith) in
     rw (s0, s1, s2, s3) (grind arith)
-
-pub nine_listed : (bs : List ℕ) (p : ℕ) → p + 9 ≤ length bs → take 9 (drop p bs) ≡ get_or bs p 0 ∷ get_or bs (p + 1) 0 ∷ get_or bs (p + 2) 0 ∷ get_or bs (p + 3) 0 ∷ get_or bs (p + 4) 0 ∷ get_or bs (p + 5) 0 ∷ get_or bs (p + 6) 0 ∷ get_or bs (p + 7) 0 ∷ get_or bs (p + 8) 0 ∷ []
-nine_listed bs p h =
-    let s0 : drop p bs ≡ get_or bs p 0 ∷ drop (suc p) bs = drop-cons bs p 0 (omega arith) in
-    let s1 : drop (suc p) bs ≡ get_or bs (suc p) 0 ∷ drop (suc (suc p)) bs = drop-cons bs (suc p) 0 (omega arith) in
-    let s2 : drop (suc (suc p)) bs ≡ get_or bs (suc (suc p)) 0 ∷ drop (suc (suc (suc p))) bs = drop-cons bs (suc (suc p)) 0 (omega arith) in
-    let s3 : drop (suc (suc (suc p))) bs ≡ get_or bs (suc (suc (suc p))) 0 ∷ drop (suc (suc (suc (suc p)))) bs = drop-cons bs (suc (suc (suc p))) 0 (omega arith) in
-    let s4 : drop (suc (suc (suc (suc p)))) bs ≡ get_or bs (suc (suc (suc (suc p)))) 0 ∷ drop (suc (suc (suc (suc (suc p))))) bs = drop-cons bs (suc (suc (suc (suc p)))) 0 (omega arith) in
-    let s5 : drop (suc (suc (suc (suc (suc p))))) bs ≡ get_or bs (suc (suc (suc (suc (suc p))))) 0 ∷ drop (suc (suc (suc (suc (suc (suc p)))))) bs = drop-cons bs (suc (suc (suc (suc (suc p))))) 0 (omega arith) in
-    let s6 : drop (suc (suc (suc (suc (suc (suc p)))))) bs ≡ get_or bs (suc (suc (suc (suc (suc (suc p)))))) 0 ∷ drop (suc (suc (suc (suc (suc (suc (suc p))))))) bs = drop-cons bs (suc (suc (suc (suc (suc (suc p)))))) 0 (omega arith) in
-    let s7 : drop (suc (suc (suc (suc (suc (suc (suc p))))))) bs ≡ get_or bs (suc (suc (suc (suc (suc (suc (suc p))))))) 0 ∷ drop (suc (suc (suc (suc (suc (suc (suc (suc p)))))))) bs = drop-cons bs (suc (suc (suc (suc (suc (suc (suc p))))))) 0 (omega arith) in
-    let s8 : drop (suc (suc (suc (suc (suc (suc (suc (suc p)))))))) bs ≡ get_or bs (suc (suc (suc (suc (suc (suc (suc (suc p)))))))) 0 ∷ drop (suc (suc (suc (suc (suc (suc (suc (suc (suc p))))))))) bs = drop-cons bs (suc (suc (suc (suc (suc (suc (suc (suc p)))))))) 0 (omega arith) in
-    rw (s0, s1, s2, s3, s4, s5, s6, s7, s8) (grind arith)
 
 pub part_get_d : (bs : List ℕ) (n p k : ℕ) → k < n → get_or (take n (drop p bs)) k 0 ≡ get_or bs (p + k) 0
 part_get_d bs n p k h = get_or-take n (drop p bs) k 0 h ∙ get_or-drop p bs k 0

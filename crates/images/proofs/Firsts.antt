@@ -1,23 +1,18 @@
--- The first that is found at the numbers below one, a number more; and what the passes find at a hand, a cell and a tag.
-use Rattle.std.proofs.Common.{◌≡◌, ℕ, zero, suc, ◌+◌, ◌-◌, ◌*◌, ◌<◌, ◌≤◌, true, false, cond, ltb, leb, List, length, get_or, take, drop, Some, None, Option, sym, refl, ap, ◌∙◌, ap₂, ⊎_elim, arith}
-use Rattle.std.proofs.lemmas.List.{take_rest}
-use Rattle.std.proofs.lemmas.Bool.{cases_eq}
+-- The first that is found at the numbers below one, a number more; and what the second pass finds.
+use Rattle.std.proofs.Common.{◌≡◌, ℕ, zero, suc, ◌+◌, ◌*◌, ◌<◌, ◌≤◌, ltb, leb, List, length, get_or, drop, Some, None, Option, sym, refl, ap, ◌∙◌, ap₂, ⊎_elim, arith}
+use Rattle.std.proofs.lemmas.Bool.{cases_eq, cases_Bool}
 use Rattle.std.proofs.lemmas.Bool.Decides.{nat_tests}
 use Rattle.cells.specs.declared.Field.{Field}
 use Rattle.cells.specs.declared.Field.TheVariants.{Nil, To}
 use Rattle.cells.specs.declared.Side.TheVariants.{Left, Right}
-use Rattle.cells.specs.declared.Cell.{Cell}
-use Rattle.cells.specs.declared.Cell.TheVariants.{Pair}
-use Rattle.graph.specs.Places.{meeting, met}
 use Rattle.images.specs.declared.faults.Place.{Place}
 use Rattle.images.specs.declared.faults.Place.TheVariants.{Cell as Of}
 use Rattle.images.specs.declared.faults.Flaw.{Flaw}
 use Rattle.images.specs.declared.faults.Fault.{Fault}
-use Rattle.images.specs.declared.faults.Fault.TheVariants.{TooShort}
 use Rattle.images.specs.declared.surveys.Survey.{Survey}
-use Rattle.images.specs.Layout.{stored_hand, stored_cell, held, kind_in, count_in}
-use Rattle.images.specs.Faults.{number_of, misheaded}
-use Rattle.images.specs.First.{or_else, first, misstep, too_early, hand_step, node_step, cell_step, references, tag_step, hand_flaw, cell_flaw, tag_flaw, cell_tags, first_flaw, flawed, first_fault}
+use Rattle.images.specs.Layout.{held, count_in}
+use Rattle.images.specs.Faults.{number_of, headed}
+use Rattle.images.specs.First.{or_else, first, references, tag_step, tag_flaw, cell_tags, first_flaw, flawed, first_fault}
 use Rattle.images.specs.Surveys.{Surveyed, mistag, Kept}
 
 module _ {A : Type 0} (at : ℕ → Option A) where
@@ -41,19 +36,6 @@ module _ {A : Type 0} (at : ℕ → Option A) where
       (cases_eq i n)
 
 module _ {V : Type 0} (taken : ℕ → Option V) (rest : List ℕ) (r : ℕ) where
-  -- what the first pass finds at a hand and at a cell that it has read, with the survey that it has
-  pub hand_flaw_lem : (i : ℕ) (o : Option Field) (m : ℕ) → o ≡ stored_hand rest i → m ≡ met (held taken rest r) i → hand_flaw taken rest r i ≡ hand_step i o r m
-  hand_flaw_lem i o m e is = ap₂ (λ s n. hand_step i s r n) (sym e) (sym is)
-
-  pub cell_flaw_lem : (j : ℕ) (c : Cell V) (m : ℕ) → c ≡ stored_cell taken rest j → m ≡ met (held taken rest r) (16 + 2 * j) → cell_flaw taken rest r j ≡ cell_step j c r m
-  cell_flaw_lem j c m e is = ap₂ (λ s n. cell_step j s r n) (sym e) (sym is)
-
-  pub cell_early : (j m : ℕ) (flaw : Flaw) → m ≡ met (held taken rest r) (16 + 2 * j) → Some flaw ≡ too_early j m → Some flaw ≡ cell_flaw taken rest r j
-  cell_early j m flaw is e = sym (cell_flaw_lem j (stored_cell taken rest j) m refl is ∙ ap (λ o. or_else o (node_step j (stored_cell taken rest j) r m)) (sym e))
-
-  pub cell_node : (j : ℕ) (c : Cell V) (m : ℕ) → c ≡ stored_cell taken rest j → m ≡ met (held taken rest r) (16 + 2 * j) → None ≡ too_early j m → node_step j c r m ≡ cell_flaw taken rest r j
-  cell_node j c m e is ok = sym (cell_flaw_lem j c m e is ∙ ap (λ o. or_else o (node_step j c r m)) (sym ok))
-
   -- a tally up to two tells a tag's flaw as well as the count does
   pub tag_flaw_lem : r ≤ 32768 → Kept taken rest r (16 + 2 * r) → (s : Survey) → Surveyed (held taken rest r) (16 + 2 * r) s → (place : Place) (f : Field) → number_of place < 16 + 2 * r → held taken rest r (number_of place) ≡ f → mistag place f s.references ≡ tag_flaw taken rest r place
   tag_flaw_lem few K s S place f l e = counted f e ∙ ap (tag_step (λ a. references (held taken rest r) a (16 + 2 * r)) place) (sym e)
@@ -65,13 +47,6 @@ module _ {V : Type 0} (taken : ℕ → Option V) (rest : List ℕ) (r : ℕ) whe
           let t = S.tally x.address (omega arith) in
           let same : leb 2 (get_or s.references x.address 0) ≡ leb 2 (references (held taken rest r) x.address (16 + 2 * r)) = grind (arith, nat_tests) in
           rw same
-
--- the sides of a pair, one after the other
-pub left_flaw : (V : Type 0) (j : ℕ) (x y : Field) (r m : ℕ) (flaw : Flaw) → Some flaw ≡ misstep (Of Left j) x r m → Some flaw ≡ node_step {V = V} j (Pair x y) r m
-left_flaw V j x y r m flaw e = sym (ap (λ o. or_else o (misstep (Of Right j) y r (meeting m x))) (sym e))
-
-pub right_flaw : (V : Type 0) (j : ℕ) (x y : Field) (r m n : ℕ) (o : Option Flaw) → None ≡ misstep (Of Left j) x r m → n ≡ meeting m x → o ≡ misstep (Of Right j) y r n → o ≡ node_step {V = V} j (Pair x y) r m
-right_flaw V j x y r m n o ok is e = e ∙ ap (misstep (Of Right j) y r) is ∙ sym (ap (λ w. or_else w (misstep (Of Right j) y r (meeting m x))) (sym ok))
 
 -- the tags on the sides of a cell, one after the other
 module _ {V : Type 0} (taken : ℕ → Option V) (rest : List ℕ) (r : ℕ) (j : ℕ) where
@@ -86,24 +61,12 @@ module _ {V : Type 0} (taken : ℕ → Option V) (rest : List ℕ) (r : ℕ) (j 
   pub right_tag : (o : Option Flaw) → None ≡ tag_flaw taken rest r (Of Left j) → o ≡ tag_flaw taken rest r (Of Right j) → o ≡ cell_tags taken rest r j
   right_tag o ok e = e ∙ sym (ap (λ w. or_else w (tag_flaw taken rest r (Of Right j))) (sym ok))
 
--- the parts of the first fault, by what the heading and the survey of the rest say
-module _ {V : Type 0} (taken : ℕ → Option V) (number : ℕ) (bytes : List ℕ) where
-  abbrev after : Option Fault → Option Flaw → Option Fault
-  after heading flaw = or_else heading (flawed flaw)
+-- the first fault is the heading's, if it has one, and else that of hands and cells
+pub first_headed : {V : Type 0} (taken : ℕ → Option V) (number : ℕ) (bytes : List ℕ) (o : Option Fault) → o ≡ headed number bytes → or_else o (flawed (first_flaw taken (drop 4 bytes) (count_in bytes))) ≡ first_fault taken number bytes
+first_headed taken number bytes o e =
+    ap (λ h. or_else h (flawed (first_flaw taken (drop 4 bytes) (count_in bytes)))) e
+    ∙ ⊎_elim (λ t. rw t) (λ t. rw t) (cases_Bool (ltb (length bytes) 4))
 
-  pub short_first : length bytes < 4 → first_fault taken number bytes ≡ Some TooShort
-  short_first short =
-      let z : ltb (length bytes) 4 ≡ true = grind (arith, nat_tests) in
-      ap (λ b. cond b (Some TooShort) (after (misheaded (kind_in bytes) number (count_in bytes) (length bytes)) (first_flaw taken (drop 4 bytes) (count_in bytes)))) z
-
-  headed_first : 4 ≤ length bytes → (o : Option Fault) → misheaded (kind_in bytes) number (count_in bytes) (length bytes) ≡ o → first_fault taken number bytes ≡ after o (first_flaw taken (drop 4 bytes) (count_in bytes))
-  headed_first long o e =
-      let z : ltb (length bytes) 4 ≡ false = grind (arith, nat_tests) in
-      ap₂ (λ b h. cond b (Some TooShort) (after h (first_flaw taken (drop 4 bytes) (count_in bytes)))) z e
-
-  pub heading_first : 4 ≤ length bytes → (fault : Fault) → misheaded (kind_in bytes) number (count_in bytes) (length bytes) ≡ Some fault → first_fault taken number bytes ≡ Some fault
-  heading_first long fault e = headed_first long (Some fault) e
-
-  pub flaw_first : 4 ≤ length bytes → {count : ℕ} (o : Option Flaw) → count ≡ count_in bytes → o ≡ first_flaw taken (take (length bytes - 4) (drop 4 bytes)) count → misheaded (kind_in bytes) number (count_in bytes) (length bytes) ≡ None → first_fault taken number bytes ≡ flawed o
-  flaw_first long {count} o n f e =
-      headed_first long None e ∙ ap flawed (sym (f ∙ ap₂ (λ rest r. first_flaw taken rest r) (take_rest bytes 4) n))
+pub first_surveyed : {V : Type 0} (taken : ℕ → Option V) (number : ℕ) (bytes : List ℕ) {rest : List ℕ} {r : ℕ} (o : Option Flaw) → rest ≡ drop 4 bytes → r ≡ count_in bytes → None ≡ headed number bytes → o ≡ first_flaw taken rest r → flawed o ≡ first_fault taken number bytes
+first_surveyed taken number bytes o here n e f =
+    ap flawed (f ∙ ap₂ (λ rest r. first_flaw taken rest r) here n) ∙ first_headed taken number bytes None e

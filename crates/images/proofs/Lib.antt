@@ -1,3 +1,4 @@
+pub mod FromFn
 pub mod Bytes
 pub mod Stored
 pub mod Spelled

@@ -1,5 +1,6 @@
 -- One more place, hand or cell: what the survey knows after it, and which rules hold up to there.
-use Rattle.std.proofs.Common.{◌≡◌, ℕ, suc, ◌+◌, ◌*◌, ◌<◌, ◌≤◌, min, true, false, leb, ◌↔◌, List, length, get_or, set, is_some, Some, None, Decides, Option, sym, refl, ap, ◌∙◌, subst, ⊎_elim, arith}
+use Rattle.std.proofs.Common.{◌≡◌, ℕ, suc, ◌+◌, ◌*◌, ◌<◌, ◌≤◌, min, true, false, leb, ◌↔◌, List, length, get_or, set, is_some, Some, None, Ok, Err, MatchResult, OnOk, Decides, Option, Result, sym, refl, ap, ◌∙◌, subst, ⊎_elim, arith}
+use Rattle.std.specs.Result.{result_err}
 use Rattle.std.proofs.lemmas.List.{length-set, get_or-set_same, get_or-set_other}
 use Rattle.std.proofs.lemmas.Bool.Decides.{nat_tests, not_from_Decides}
 use Rattle.std.proofs.lemmas.Bool.{cases_eq, cases_Bool}
@@ -23,7 +24,7 @@ use Rattle.images.specs.declared.surveys.Survey.{Survey}
 use Rattle.images.specs.Layout.{stored_hand, stored_cell, or_nil, held}
 use Rattle.images.specs.Faults.{number_of, Broken}
 use Rattle.images.specs.First.{references, misstep, too_early}
-use Rattle.images.specs.Surveys.{Surveyed, noted, mistag, Kept, ReadTo, Tagged, TaggedTo}
+use Rattle.images.specs.Surveys.{Surveyed, noted, mistag, Kept, Tagged}
 use Rattle.images.proofs.Stored.{held_hand, held_side, held_past}
 use Rattle.images.proofs.Tallies.{references_start, references_here, references_not, tally_decides}
 
@@ -170,14 +171,28 @@ module _ {V : Type 0} (taken : ℕ → Option V) (rest : List ℕ) (r : ℕ) whe
   pub tagged_next : (p n : ℕ) → suc p ≡ n → Tagged (held taken rest r) p → ((x : Reference) → held taken rest r p ≡ To x → (x.tag ≡ Sticky) ↔ Another (held taken rest r) p x.address) → Tagged (held taken rest r) n
   tagged_next p n next before here = below_next (λ q x. (x.tag ≡ Sticky) ↔ Another (held taken rest r) q x.address) p n (sym next) before here
 
-  -- the first pass, at the right side of a cell whose left side is read
-  pub cell_read : (j : ℕ) (c : Cell V) (m : ℕ) (s s' : Survey) → j < r → c ≡ stored_cell taken rest j → is_node c ≡ true → Kept taken rest r (16 + 2 * j) → None ≡ too_early j m → m ≡ met (held taken rest r) (16 + 2 * j) → None ≡ misstep (Of Left j) (field_of Left c) r m → Surveyed (held taken rest r) (17 + 2 * j) s → (o : Option Flaw) → o ≡ misstep (Of Right j) (field_of Right c) r s.met → (o ≡ None → s'.met ≡ meeting s.met (field_of Right c)) → (o ≡ None → s'.references ≡ noted s.references (field_of Right c)) → ReadTo taken rest r (18 + 2 * j) s' o
-  cell_read j c m s s' h e node K early is ok S None o meets tally =
+  -- what the first pass leaves below a place, and the second
+  abbrev pub PastRead : Survey → ℕ → Type 0
+  PastRead s p = Kept taken rest r p × Surveyed (held taken rest r) p s
+
+  abbrev pub PastTags : Survey → ℕ → Type 0
+  PastTags s p = Kept taken rest r (16 + 2 * r) × Surveyed (held taken rest r) (16 + 2 * r) s × Tagged (held taken rest r) p
+
+  -- the first pass, at a hand, and at the right side of a cell whose left side is read
+  pub hand_read : (i : ℕ) (f : Field) (s s' : Survey) → i < 16 → Some f ≡ stored_hand rest i → PastRead s i → {T : Type 0} (o : Result T Flaw) → result_err o ≡ misstep (Hand i) f r s.met → OnOk o (s'.met ≡ meeting s.met f) → OnOk o (s'.references ≡ noted s.references f) → MatchResult o (λ _. PastRead s' (i + 1)) (Broken taken rest r)
+  hand_read i f s s' h e P (Ok t) o meets tally = (
+    kept_hand i (i + 1) f s.met (omega arith) h P.0 e P.1.meets o,
+    surveyed_step (held taken rest r) i (i + 1) s s' f (omega arith) P.1 (hand_field i f h e) meets tally,
+  )
+  hand_read i f s s' h e P (Err flaw) o meets tally = misstep_breaks (Hand i) f s.met flaw (omega arith) (hand_field i f h e) P.1.meets o
+
+  pub cell_read : (j : ℕ) (c : Cell V) (m : ℕ) (s s' : Survey) → j < r → c ≡ stored_cell taken rest j → is_node c ≡ true → Kept taken rest r (16 + 2 * j) → None ≡ too_early j m → m ≡ met (held taken rest r) (16 + 2 * j) → None ≡ misstep (Of Left j) (field_of Left c) r m → Surveyed (held taken rest r) (17 + 2 * j) s → {T : Type 0} (o : Result T Flaw) → result_err o ≡ misstep (Of Right j) (field_of Right c) r s.met → OnOk o (s'.met ≡ meeting s.met (field_of Right c)) → OnOk o (s'.references ≡ noted s.references (field_of Right c)) → MatchResult o (λ _. PastRead s' (18 + 2 * j)) (Broken taken rest r)
+  cell_read j c m s s' h e node K early is ok S (Ok t) o meets tally =
       let fine : j < m = grind (arith, nat_tests) in (
         kept_cell j (18 + 2 * j) c m s.met refl h e node K fine is S.meets ok o,
-        surveyed_step (held taken rest r) (17 + 2 * j) (18 + 2 * j) s s' (field_of Right c) (omega arith) S (side_field Right j c h e) (meets refl) (tally refl),
+        surveyed_step (held taken rest r) (17 + 2 * j) (18 + 2 * j) s s' (field_of Right c) (omega arith) S (side_field Right j c h e) meets tally,
       )
-  cell_read j c m s s' h e node K early is ok S (Some flaw) o meets tally =
+  cell_read j c m s s' h e node K early is ok S (Err flaw) o meets tally =
       misstep_breaks (Of Right j) (field_of Right c) s.met flaw (omega arith) (side_field Right j c h e) S.meets o
 
   -- the second pass, at a place that holds nothing
@@ -185,9 +200,9 @@ module _ {V : Type 0} (taken : ℕ → Option V) (rest : List ℕ) (r : ℕ) whe
   tagged_nil p n next e before = tagged_next p n next before (λ x z. absurd (let w : Nil ≡ To x = sym e ∙ z in grind arith))
 
   -- the second pass, at a place
-  pub tag_read : r ≤ 32768 → Kept taken rest r (16 + 2 * r) → (s : Survey) → Surveyed (held taken rest r) (16 + 2 * r) s → (place : Place) (f : Field) (n : ℕ) → number_of place < 16 + 2 * r → suc (number_of place) ≡ n → held taken rest r (number_of place) ≡ f → Tagged (held taken rest r) (number_of place) → (o : Option Flaw) → o ≡ mistag place f s.references → TaggedTo taken rest r n o
-  tag_read few K s S place f n l next e before None o = tagged_next (number_of place) n next before (tag_right few K s S place f l e o)
-  tag_read few K s S place f n l next e before (Some flaw) o = tag_wrong few K s S place f flaw l e o
+  pub tag_read : r ≤ 32768 → (s : Survey) (place : Place) (f : Field) (n : ℕ) → number_of place < 16 + 2 * r → suc (number_of place) ≡ n → held taken rest r (number_of place) ≡ f → PastTags s (number_of place) → {T : Type 0} (o : Result T Flaw) → result_err o ≡ mistag place f s.references → MatchResult o (λ _. PastTags s n) (Broken taken rest r)
+  tag_read few s place f n l next e P (Ok t) o = (P.0, P.1, tagged_next (number_of place) n next P.2 (tag_right few P.0 s P.1 place f l e o))
+  tag_read few s place f n l next e P (Err flaw) o = tag_wrong few P.0 s P.1 place f flaw l e o
 
 -- a cell that is no pair has nothing on its sides
 pub no_pair : {V : Type 0} (c : Cell V) → ((x y : Field) → c ≡ Pair x y → ⊥) → (s : Side) → field_of s c ≡ Nil

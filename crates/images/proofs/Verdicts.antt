@@ -1,7 +1,7 @@
 -- Bytes that keep the rules are an image, and bytes that break one are none.
-use Rattle.std.proofs.Common.{◌≡◌, ℕ, zero, suc, ◌+◌, ◌-◌, ◌*◌, ◌^◌, ◌<◌, ◌≤◌, Bool, true, false, List, ◌++◌, length, get_or, take, drop, Some, None, Decides, Option, sym, refl, ap, ◌∙◌, subst, ap₂, ⊎_elim, arith}
+use Rattle.std.proofs.Common.{◌≡◌, ℕ, zero, suc, ◌+◌, ◌*◌, ◌^◌, ◌<◌, ◌≤◌, Bool, true, false, List, ◌++◌, length, get_or, drop, Some, None, Decides, Option, sym, refl, ap, ◌∙◌, subst, ap₂, ⊎_elim, arith}
 use Rattle.std.specs.List.{flat_map}
-use Rattle.std.proofs.lemmas.List.{length-drop, get_or-drop, take_rest}
+use Rattle.std.proofs.lemmas.List.{length-drop, get_or-drop}
 use Rattle.std.proofs.lemmas.Bool.{cases_lt, cases_eq}
 use Rattle.std.proofs.lemmas.Bool.Decides.{nat_tests, Decides-like}
 use Rattle.cells.specs.declared.Reference.{Reference}
@@ -21,7 +21,7 @@ use Rattle.images.specs.declared.faults.Fault.{Fault}
 use Rattle.images.specs.declared.faults.Fault.TheVariants.{TooShort, WrongKind, TooManyCells, WrongLength, Flawed}
 use Rattle.images.specs.Layout.{two_bytes, hand_bytes, image_of, stored_hands, stored_cells, held, kind_in, count_in, hands_in, cells_in}
 use Rattle.images.specs.Images.{ImageOf, NoImage, HeldImage, graph_in}
-use Rattle.images.specs.Faults.{number_of, Broken, Faulty, misheaded}
+use Rattle.images.specs.Faults.{number_of, Broken, Faulty, misheaded, headed}
 use Rattle.images.specs.Surveys.{Kept, Tagged, Surveys}
 use Rattle.images.proofs.Bytes.{bytes_headed}
 use Rattle.images.proofs.Stored.{stored_sixteen, stored_count, stored_cell_lem, held_past}
@@ -44,13 +44,10 @@ met_inside at r (suc p) inside =
     omega arith
 
 -- what the heading tells
-pub heading_right : (kind wanted count size : ℕ) → misheaded kind wanted count size ≡ None → (kind ≡ wanted) × (count ≤ 32768) × (size ≡ 68 + 9 * count)
+heading_right : (kind wanted count size : ℕ) → misheaded kind wanted count size ≡ None → (kind ≡ wanted) × (count ≤ 32768) × (size ≡ 68 + 9 * count)
 heading_right kind wanted count size e = (grind (arith, nat_tests), grind (arith, nat_tests), grind (arith, nat_tests))
 
-pub heading_at : {o : Option Fault} {kind wanted number count : ℕ} (bytes : List ℕ) → kind ≡ kind_in bytes → wanted ≡ number → count ≡ count_in bytes → o ≡ misheaded kind wanted count (length bytes) → misheaded (kind_in bytes) number (count_in bytes) (length bytes) ≡ o
-heading_at bytes k w n e = sym (e ∙ (λ i. misheaded (k i) (w i) (n i) (length bytes)))
-
-pub heading_wrong : {V : Type 0} (taken : ℕ → Option V) (number : ℕ) (bytes : List ℕ) (fault : Fault) → misheaded (kind_in bytes) number (count_in bytes) (length bytes) ≡ Some fault → Faulty taken number bytes fault
+heading_wrong : {V : Type 0} (taken : ℕ → Option V) (number : ℕ) (bytes : List ℕ) (fault : Fault) → misheaded (kind_in bytes) number (count_in bytes) (length bytes) ≡ Some fault → Faulty taken number bytes fault
 heading_wrong taken number bytes fault e = ⊎_elim kind other (cases_eq (kind_in bytes) number)
   where
     kind : kind_in bytes ≡ number → Faulty taken number bytes fault
@@ -67,6 +64,16 @@ heading_wrong taken number bytes fault e = ⊎_elim kind other (cases_eq (kind_i
 
     other : (kind_in bytes ≡ number → ⊥) → Faulty taken number bytes fault
     other h = let z : fault ≡ WrongKind (kind_in bytes) = grind (arith, nat_tests) in rw z (refl, h)
+
+pub headed_right : (number : ℕ) (bytes : List ℕ) → None ≡ headed number bytes → (kind_in bytes ≡ number) × (count_in bytes ≤ 32768) × (length bytes ≡ 68 + 9 * count_in bytes)
+headed_right number bytes e = heading_right (kind_in bytes) number (count_in bytes) (length bytes) (grind (arith, nat_tests))
+
+pub headed_wrong : {V : Type 0} (taken : ℕ → Option V) (number : ℕ) (bytes : List ℕ) (fault : Fault) → Some fault ≡ headed number bytes → Faulty taken number bytes fault
+headed_wrong taken number bytes fault e =
+    ⊎_elim
+    (λ l. let z : fault ≡ TooShort = grind (arith, nat_tests) in rw z l)
+    (λ l. heading_wrong taken number bytes fault (grind (arith, nat_tests)))
+    (cases_lt (length bytes) 4)
 
 module _ {V : Type 0} (taken : ℕ → Option V) (rest : List ℕ) (r : ℕ) (K : Kept taken rest r (16 + 2 * r)) (T : Tagged (held taken rest r) (16 + 2 * r)) where
   -- the last cell is met before it is read, so all are
@@ -92,12 +99,12 @@ module _ {V : Type 0} (taken : ℕ → Option V) (rest : List ℕ) (r : ℕ) (K 
         tags = λ p x e. ⊎_elim (λ l. T p x l e) (λ l. absurd (let z = held_past taken rest r p l in let w : Nil ≡ To x = sym z ∙ e in grind arith)) (cases_lt p (16 + 2 * r));
       }
 
+-- what a survey says of the rest of bytes
+pub surveyed_rest : {V : Type 0} (taken : ℕ → Option V) (bytes : List ℕ) {rest : List ℕ} {r : ℕ} (o : Option Flaw) → rest ≡ drop 4 bytes → r ≡ count_in bytes → Surveys taken rest r o → Surveys taken (drop 4 bytes) (count_in bytes) o
+surveyed_rest taken bytes {r = r} o here n s = subst (λ r. Surveys taken (drop 4 bytes) r o) n (subst (λ rest. Surveys taken rest r o) here s)
+
 -- for a leaf kind that keeps its laws
 module _ {V : Type 0} {lawful : V → Bool} {tidied : V → Option V} {word : V → ℕ} {taken : ℕ → Option V} {alike : V → V → Bool} (laws : Laws lawful tidied word taken alike) (number : ℕ) (bytes : List ℕ) where
-  -- what the survey of the rest says, of the whole
-  pub surveyed_whole : {count : ℕ} (o : Option Flaw) → count ≡ count_in bytes → Surveys taken (take (length bytes - 4) (drop 4 bytes)) count o → Surveys taken (drop 4 bytes) (count_in bytes) o
-  surveyed_whole {count} o n s = subst (λ r. Surveys taken (drop 4 bytes) r o) n (subst (λ rest. Surveys taken rest count o) (take_rest bytes 4) s)
-
   pub rules_image : ((k : ℕ) → get_or bytes k 0 < 256) → kind_in bytes ≡ number → count_in bytes ≤ 32768 → length bytes ≡ 68 + 9 * count_in bytes → Kept taken (drop 4 bytes) (count_in bytes) (16 + 2 * count_in bytes) → Tagged (held taken (drop 4 bytes) (count_in bytes)) (16 + 2 * count_in bytes) → ImageOf lawful word number bytes (hands_in bytes) (cells_in taken bytes)
   unfolding image_of
   rules_image small kind few len K T =
@@ -145,7 +152,7 @@ module _ {V : Type 0} {lawful : V → Bool} {tidied : V → Option V} {word : V 
       omega (arith, b.1)
   flaw_no_image (WrongTag place x) b hands cells I = b.1 ((canonical_here laws I).tags (number_of place) x b.0)
 
-  pub short_no_image : length bytes < 4 → NoImage lawful word number bytes
+  short_no_image : length bytes < 4 → NoImage lawful word number bytes
   short_no_image short hands cells I = let l = length_here laws I in omega arith
 
   pub fault_no_image : number < 2 ^ 16 → (fault : Fault) → Faulty taken number bytes fault → NoImage lawful word number bytes

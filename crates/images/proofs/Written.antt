@@ -1,35 +1,23 @@
 -- What Write reads of a bank, why it is refused, and what its three parts make of the bytes.
-use Rattle.std.proofs.Common.{◌≡◌, ℕ, zero, suc, ◌+◌, ◌*◌, ◌<◌, ◌≤◌, Bool, true, false, List, [], ◌∷◌, ◌++◌, length, get_or, take, drop, Some, None, Ok, Err, Result, sym, refl, ap, ◌∙◌, zero-add, arith}
-use Rattle.std.specs.List.{flat_map}
-use Rattle.std.proofs.lemmas.List.{length-take-le}
+use Rattle.std.proofs.Common.{◌≡◌, ℕ, zero, suc, ◌+◌, ◌*◌, ◌<◌, ◌≤◌, Bool, true, false, List, [], ◌∷◌, ◌++◌, length, get_or, take, drop, Some, None, Ok, Result, sym, refl, ap, ◌∙◌, subst, zero-add, arith}
+use Rattle.std.specs.Bool.{MatchBool}
+use Rattle.std.specs.List.{flat_map, AllWithin, HoldsAt, range_with_len}
+use Rattle.std.proofs.lemmas.List.{length-take-le, get_or-take}
+use Rattle.std.proofs.lemmas.List.FromFn.{length-range_with_len, get_or-range_with_len}
 use Rattle.std.proofs.lemmas.Bool.Decides.{nat_tests}
 use Rattle.cells.specs.declared.Cell.{Cell}
 use Rattle.cells.specs.declared.Cell.TheVariants.{Blank}
 use Rattle.cells.specs.declared.causes.Cause.{Cause}
-use Rattle.cells.specs.declared.causes.Cause.TheVariants.{Spoiled, NotSettled, TooFewBytes}
-use Rattle.cells.specs.declared.causes.Cause.TheVariants as causes
 use Rattle.cells.specs.Banks.{cell_at}
 use Rattle.packing.specs.Cells.{pack_cell}
 use Rattle.packing.proofs.Cells.{cell_length}
 use Rattle.graph.specs.Places.{is_node}
-use Rattle.store.specs.declared.Mode.{Mode}
-use Rattle.store.specs.declared.Mode.TheVariants.{Settled, Working, Collecting}
 use Rattle.store.specs.Model.{Model, is_collecting}
 use Rattle.images.specs.Layout.{two_bytes, hand_bytes, image_of}
-use Rattle.images.specs.Writing.{is_working, all_nodes, length_for, write_cause, write_answer, pasted, image_kept, bytes_after}
+use Rattle.images.specs.Writing.{is_working, all_nodes, node_found, length_for, write_cause, write_answer, pasted, image_kept, bytes_after}
 use Rattle.images.proofs.Bytes.{length_parts}
 use Rattle.images.proofs.Spelled.{hand_length, cell_at_inside}
 use Rattle.images.proofs.Pasted.{pasted_after}
-
-pub not_collecting : (x : Mode) → ((s c n : ℕ) → x ≡ Collecting s c n → ⊥) → is_collecting x ≡ false
-not_collecting Settled h = refl
-not_collecting Working h = refl
-not_collecting (Collecting s c n) h = absurd (h s c n refl)
-
-pub not_working : (x : Mode) → (x ≡ Working → ⊥) → is_working x ≡ false
-not_working Settled h = refl
-not_working Working h = absurd (h refl)
-not_working (Collecting s c n) h = refl
 
 module _ {V : Type 0} where
   -- a cell that is found below a count is the one that stands there
@@ -39,13 +27,8 @@ module _ {V : Type 0} where
   pub found_some : (cells : List (Cell V)) (at : ℕ) → at < length cells → None ≡ cell_at cells at → ⊥
   found_some cells at h e = let i = cell_at_inside cells at h in grind arith
 
-  -- one more node, and one that is none
-  pub nodes_more : (cells : List (Cell V)) (at : ℕ) → at < length cells → is_node (get_or cells at Blank) ≡ true → all_nodes (take at cells) ≡ true → all_nodes (take (suc at) cells) ≡ true
-  nodes_more [] at h n all = refl
-  nodes_more (c ∷ cs) zero h n all = grind (arith, nat_tests)
-  nodes_more (c ∷ cs) (suc at) h n all = grind (arith, nat_tests, nodes_more cs at)
-
-  pub nodes_not : (cells : List (Cell V)) (count at : ℕ) → at < count → at < length cells → is_node (get_or cells at Blank) ≡ false → false ≡ all_nodes (take count cells)
+  -- one that is no node
+  nodes_not : (cells : List (Cell V)) (count at : ℕ) → at < count → at < length cells → is_node (get_or cells at Blank) ≡ false → false ≡ all_nodes (take count cells)
   nodes_not [] count at h l n = absurd (omega arith)
   nodes_not (c ∷ cs) zero at h l n = absurd (omega arith)
   nodes_not (c ∷ cs) (suc count) zero h l n = grind (arith, nat_tests)
@@ -55,29 +38,33 @@ module _ {V : Type 0} where
   nodes_all [] h = refl
   nodes_all (c ∷ cs) h = let here = h 0 (omega arith) in let more = nodes_all cs (λ j l. h (suc j) (omega arith)) in grind (arith, nat_tests)
 
-  -- ---- refusals, row by row
+  -- what a search of the addresses below a count for no node tells
+  pub nodes_told : (cells : List (Cell V)) (count : ℕ) → count ≤ length cells → (r : Bool)
+      → MatchBool r (AllWithin (λ k. node_found (cell_at cells k) ≡ true) (range_with_len 0 count) 0 (length (range_with_len 0 count)))
+      ((k : ℕ) × (k < length (range_with_len 0 count)) × HoldsAt (λ k. node_found (cell_at cells k) ≡ false) (range_with_len 0 count) k)
+      → r ≡ all_nodes (take count cells)
+  nodes_told cells count fits true all =
+      sym (nodes_all (take count cells) (λ j l.
+      let n = length-take-le count cells fits in
+      let h : j < count = omega arith in
+      let many : j < length (range_with_len 0 count) = rw length-range_with_len h in
+      let here = cell_at_inside cells j (omega arith) in
+      let same = get_or-range_with_len 0 count j 0 h in
+      let node : node_found (cell_at cells j) ≡ true = ap (λ k. node_found (cell_at cells k)) (sym (same ∙ zero-add j)) ∙ all j 0 (omega arith) many in
+      ap is_node (get_or-take count cells j Blank h) ∙ sym (ap node_found here) ∙ node))
+  nodes_told cells count fits false some =
+      let h : some.0 < count = subst (λ n. some.0 < n) (length-range_with_len 0 count) some.1 in
+      let here = cell_at_inside cells some.0 (omega arith) in
+      let same = get_or-range_with_len 0 count some.0 0 h in
+      let none : node_found (cell_at cells some.0) ≡ false = ap (λ k. node_found (cell_at cells k)) (sym (same ∙ zero-add some.0)) ∙ some.2 0 in
+      nodes_not cells count some.0 h (omega arith) (sym (ap node_found here) ∙ none)
+
+  -- ---- refusals
 
   module _ (m : Model) (cells : List (Cell V)) (space : ℕ) (fits : length cells ≡ m.size) where
-    pub row_collecting : is_collecting m.mode ≡ true → Some causes.Collecting ≡ write_cause m cells space
+    row_none : is_collecting m.mode ≡ false → all_nodes (take m.mark cells) ≡ true → is_working m.mode ≡ false → length_for m.mark ≤ space → None ≡ write_cause m cells space
     unfolding write_cause
-    row_collecting a = grind (arith, nat_tests)
-
-    pub row_spoiled : is_collecting m.mode ≡ false → all_nodes (take m.mark cells) ≡ false → Some Spoiled ≡ write_cause m cells space
-    unfolding write_cause
-    row_spoiled a b = grind (arith, nat_tests)
-
-    module _ (a : is_collecting m.mode ≡ false) (b : all_nodes (take m.mark cells) ≡ true) where
-      pub row_working : is_working m.mode ≡ true → Some NotSettled ≡ write_cause m cells space
-      unfolding write_cause
-      row_working d = grind (arith, nat_tests)
-
-      pub row_short : is_working m.mode ≡ false → space < length_for m.mark → Some TooFewBytes ≡ write_cause m cells space
-      unfolding write_cause
-      row_short d h = grind (arith, nat_tests)
-
-      pub row_none : is_working m.mode ≡ false → length_for m.mark ≤ space → None ≡ write_cause m cells space
-      unfolding write_cause
-      row_none d h = grind (arith, nat_tests)
+    row_none a b d h = grind (arith, nat_tests)
 
   -- what no refusal tells
   pub none_tells : (m : Model) (cells : List (Cell V)) (space : ℕ) → None ≡ write_cause m cells space → (length cells ≡ m.size) × (length_for m.mark ≤ space)
@@ -88,9 +75,6 @@ module _ {V : Type 0} where
     -- an answer and the bytes after are those of the definitions
     abbrev pub Right : Result ℕ Cause → List ℕ → Type 0
     Right r now = (r ≡ write_answer m cells (length bytes)) × (now ≡ bytes_after lawful word number m cells bytes)
-
-    pub refused : (c : Cause) → write_cause m cells (length bytes) ≡ Some c → Right (Err c) bytes
-    refused c e = (rw e, rw e)
 
     -- ---- the three parts: heading, hands, cells
 

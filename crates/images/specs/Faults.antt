@@ -1,5 +1,5 @@
 -- What each fault says of the bytes that have it. Assumes nothing.
-use Rattle.std.specs.Prelude.{◌≡◌, ℕ, ◌+◌, ◌*◌, ◌<◌, ◌≤◌, Bool, true, false, cond, ◌↔◌, List, length, drop, Some, None, Ok, Err, Option, Result, ◌==◌, ◌≢◌, nat_le}
+use Rattle.std.specs.Prelude.{◌≡◌, ℕ, ◌+◌, ◌*◌, ◌<◌, ◌≤◌, Bool, true, false, cond, ◌↔◌, List, length, drop, Some, None, Ok, Err, Option, Result, ◌==◌, ◌≢◌, nat_le, nat_lt}
 use Rattle.cells.specs.declared.Tag.TheVariants.{Sticky}
 use Rattle.cells.specs.declared.Field.TheVariants.{To}
 use Rattle.graph.specs.Places.{place_of, refers_to, Another, met, is_node}
@@ -45,6 +45,10 @@ misheaded kind wanted count size =
     cond (kind == wanted)
     (cond (nat_le count 32768) (cond (size == 68 + 9 * count) None (Some (WrongLength size count))) (Some (TooManyCells count)))
     (Some (WrongKind kind))
+
+-- the fault of a heading, if there is one
+abbrev pub headed : ℕ → List ℕ → Option Fault
+headed number bytes = cond (nat_lt (length bytes) 4) (Some TooShort) (misheaded (kind_in bytes) number (count_in bytes) (length bytes))
 
 -- the number of cells of an image, or a fault of other bytes
 abbrev pub Examined : {V : Type 0} → (V → Bool) → (V → ℕ) → (ℕ → Option V) → ℕ → List ℕ → Result ℕ Fault → Type 0

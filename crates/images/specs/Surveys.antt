@@ -38,19 +38,9 @@ pub record Kept {V : Type 0} (taken : ℕ → Option V) (rest : List ℕ) (r : �
   pub inside : (q : ℕ) (x : Reference) → q < p → held taken rest r q ≡ To x → x.address < r
   pub order : (q : ℕ) (x : Reference) → q < p → held taken rest r q ≡ To x → x.address ≤ met (held taken rest r) q
 
--- the first pass up to the place p found no flaw, or this one
-abbrev pub ReadTo : {V : Type 0} → (ℕ → Option V) → List ℕ → ℕ → ℕ → Survey → Option Flaw → Type 0
-ReadTo taken rest r p survey None = Kept taken rest r p × Surveyed (held taken rest r) p survey
-ReadTo taken rest r p survey (Some flaw) = Broken taken rest r flaw
-
 -- the rule of tags holds of the places below p
 abbrev pub Tagged : (ℕ → Field) → ℕ → Type 0
 Tagged at p = (q : ℕ) (x : Reference) → q < p → at q ≡ To x → (x.tag ≡ Sticky) ↔ Another at q x.address
-
--- the second pass up to the place p found no flaw, or this one
-abbrev pub TaggedTo : {V : Type 0} → (ℕ → Option V) → List ℕ → ℕ → ℕ → Option Flaw → Type 0
-TaggedTo taken rest r p None = Tagged (held taken rest r) p
-TaggedTo taken rest r p (Some flaw) = Broken taken rest r flaw
 
 -- both passes found no flaw, or this one
 abbrev pub Surveys : {V : Type 0} → (ℕ → Option V) → List ℕ → ℕ → Option Flaw → Type 0

@@ -1,6 +1,6 @@
 -- Writing the image of a store: when it is refused, what it answers, and the bytes after. Assumes nothing.
 -- `lawful`, `word` and `number` are the members of the store's leaf kind.
-use Rattle.std.specs.Prelude.{ℕ, ◌+◌, ◌*◌, Bool, true, false, not, ◌&&◌, List, [], ◌∷◌, ◌++◌, length, take, drop, Ok, Err, Option, Result, ◌==◌, nat_lt}
+use Rattle.std.specs.Prelude.{ℕ, ◌+◌, ◌*◌, Bool, true, false, not, ◌&&◌, List, [], ◌∷◌, ◌++◌, length, take, drop, Some, None, Ok, Err, Option, Result, ◌==◌, nat_lt}
 use Rattle.cells.specs.declared.Cell.{Cell}
 use Rattle.cells.specs.declared.causes.Cause.{Cause}
 use Rattle.cells.specs.declared.causes.Cause.TheVariants.{OtherSize, Spoiled, NotSettled, TooFewBytes}
@@ -21,6 +21,11 @@ is_working (Collecting s c n) = false
 abbrev pub all_nodes : {V : Type 0} → List (Cell V) → Bool
 all_nodes [] = true
 all_nodes (c ∷ cs) = is_node c && all_nodes cs
+
+-- whether a pair or a leaf was found
+abbrev pub node_found : {V : Type 0} → Option (Cell V) → Bool
+node_found None = false
+node_found (Some c) = is_node c
 
 -- how many bytes the image of n cells has
 abbrev pub length_for : ℕ → ℕ

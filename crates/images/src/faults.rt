@@ -1,19 +1,20 @@
 // What is wrong with bytes that are no image, in words for people.
-ghost use Rattle.std.specs.Prelude.{Some};
+ghost use Rattle.std.specs.Prelude.{◌≡◌, Some};
+ghost use Rattle.images.specs.declared.faults.Fault.TheVariants.{Flawed as FlawedBy};
 ghost use Rattle.images.specs.Words.{place_words, flaw_words, fault_words};
 
 use cells::{Reference, Side, Tag};
 use std::fmt;
 
 // A place that holds a field: a hand, or a side of a cell.
-#[derive(Clone, Copy)]
+#[derive(Clone, Copy, PartialEq, Eq, Debug)]
 pub enum Place {
     Hand(u8),
     Cell(Side, u16),
 }
 
 // What is wrong with the hands and cells of an image.
-#[derive(Clone, Copy)]
+#[derive(Clone, Copy, PartialEq, Eq, Debug)]
 pub enum Flaw {
     // The hand's four bytes are no field.
     BadHand(u8),
@@ -30,7 +31,7 @@ pub enum Flaw {
 }
 
 // What is wrong with bytes that are no image of the wanted kind.
-#[derive(Clone, Copy)]
+#[derive(Clone, Copy, PartialEq, Eq, Debug)]
 pub enum Fault {
     // There are fewer than four bytes.
     TooShort,
@@ -41,6 +42,14 @@ pub enum Fault {
     // There are this many bytes, which is not what this many cells take.
     WrongLength(usize, u16),
     Flawed(Flaw),
+}
+
+impl From<Flaw> for Fault {
+    ghost from_gives = { λ flaw fault. fault ≡ FlawedBy flaw };
+
+    fn from(flaw: Flaw) -> Fault {
+        Fault::Flawed(flaw)
+    }
 }
 
 impl fmt::Display for Place {

@@ -1,10 +1,12 @@
 // Images: a settled store as bytes, one string of bytes for each graph.
 #![tactic(auto)]
 
-ghost use Rattle.std.specs.Prelude.{◌≡◌, ◌≤◌, length, drop, Some, None, Ok, Err, Decides};
+ghost use Rattle.std.specs.Prelude.{◌≡◌, ◌≤◌, length, drop, IfOk, OnOk, Ok, Err, Decides};
+ghost use Rattle.std.specs.Result.{result_err, result_map_both};
 ghost use Rattle.graph.specs.Graphs.{Alike};
 ghost use Rattle.images.specs.Images.{HeldImage, Checked, OneReading, hand_of, cell_of, graph_in, Compared};
-ghost use Rattle.images.specs.Faults.{misheaded, Examined, Diagnosed};
+ghost use Rattle.images.specs.Layout.{count_in};
+ghost use Rattle.images.specs.Faults.{Examined, Diagnosed};
 ghost use Rattle.images.specs.First.{first_fault};
 
 pub mod faults;
@@ -14,44 +16,21 @@ mod surveys;
 pub mod writing;
 
 use crate::faults::Fault;
-use crate::reading::{cell_at, hand_at};
-use crate::surveys::first_flaw;
+use crate::reading::{Body, cell_at, hand_at};
+use crate::surveys::check_body;
 use cells::causes::Cause;
 use cells::leaves::LeafKind;
 use cells::{Cell, Field};
 
-// What is wrong with a kind's number, a number of cells or a length.
-fn wrong_heading(kind: u16, wanted: u16, count: u16, size: usize) -> Option<Fault>
-    ensures { result ≡ misheaded kind wanted count size }
+// The hands and cells of an image, or what is wrong with bytes that are none.
+fn examine<V: LeafKind>(image: &[u8]) -> Result<Body<'_>, Fault>
+    ensures rules { Examined V.lawful V.word V.taken V.number image.now (result_map_both (λ body. body.count) (λ fault. fault) result) }
+    ensures order { result_err result ≡ first_fault V.taken V.number image.now }
+    ensures rest { IfOk result (λ body. (body.bytes.now ≡ drop 4 image.now) × (body.count ≡ count_in image.now)) }
 {
-    if kind != wanted {
-        Some(Fault::WrongKind(kind))
-    } else if count > 32768 {
-        Some(Fault::TooManyCells(count))
-    } else if size != 68 + 9 * count as usize {
-        Some(Fault::WrongLength(size, count))
-    } else {
-        None
-    }
-}
-
-// The number of cells of an image, or what is wrong with bytes that are none.
-fn examine<V: LeafKind>(image: &[u8]) -> Result<u16, Fault>
-    ensures rules { Examined V.lawful V.word V.taken V.number image.now result }
-    ensures order { elim result [ Ok _ ↦ first_fault V.taken V.number image.now ≡ None | Err fault ↦ first_fault V.taken V.number image.now ≡ Some fault ] }
-{
-    let [k0, k1, r0, r1, rest @ ..] = image else {
-        return Err(Fault::TooShort);
-    };
-    let kind = u16::from_be_bytes([*k0, *k1]);
-    let count = u16::from_be_bytes([*r0, *r1]);
-    if let Some(fault) = wrong_heading(kind, V::kind_number(), count, image.len()) {
-        return Err(fault);
-    }
-    match first_flaw::<V>(rest, count) {
-        Some(flaw) => Err(Fault::Flawed(flaw)),
-        None => Ok(count),
-    }
+    let body = Body::parse(image, V::kind_number())?;
+    check_body::<V>(&body)?;
+    Ok(body)
 }
 
 // What is wrong first with bytes that are no image of the kind, and nothing where they are one.
@@ -59,10 +38,16 @@ pub fn diagnose<V: LeafKind>(image: &[u8]) -> Option<Fault>
     ensures first { result ≡ first_fault V.taken V.number image.now }
     ensures rules { Diagnosed V.lawful V.word V.taken V.number image.now result }
 {
-    match examine::<V>(image) {
-        Ok(_) => None,
-        Err(fault) => Some(fault),
-    }
+    examine::<V>(image).err()
+}
+
+// The hands and cells of an image of the kind, and a refusal of any other bytes.
+fn read<V: LeafKind>(image: &[u8]) -> Result<Body<'_>, Cause>
+    ensures checked { Checked V.lawful V.word V.number image.now (result_map_both (λ body. body.count) (λ cause. cause) result) }
+    ensures holds { OnOk result (HeldImage V.lawful V.word V.taken V.number image.now) }
+    ensures rest { IfOk result (λ body. (body.bytes.now ≡ drop 4 image.now) × (body.count ≡ count_in image.now)) }
+{
+    examine::<V>(image).map_err(|_| Cause::NotAnImage)
 }
 
 // The number of cells of an image of the kind, and a refusal of any other bytes.
@@ -70,10 +55,8 @@ pub fn check<V: LeafKind>(image: &[u8]) -> Result<u16, Cause>
     ensures checked { Checked V.lawful V.word V.number image.now result }
     ensures holds { elim result [ Ok _ ↦ HeldImage V.lawful V.word V.taken V.number image.now | Err _ ↦ Unit {0} ] }
 {
-    match examine::<V>(image) {
-        Ok(count) => Ok(count),
-        Err(_) => Err(Cause::NotAnImage),
-    }
+    let body = read::<V>(image)?;
+    Ok(body.count)
 }
 
 // Whether the graphs of two images are alike, which is whether the bytes are equal.

@@ -1,49 +1,42 @@
 // Opening an image: the store that it is the image of, in a bank that has room for it.
-ghost use Rattle.std.specs.Prelude.{◌≡◌, ℕ, ◌+◌, ◌*◌, ◌<◌, ◌≤◌, true, ◌++◌, length, drop};
+ghost use Rattle.std.specs.Prelude.{◌≡◌, ℕ, ◌<◌, ◌≤◌, true, ◌++◌, length, drop};
 ghost use Rattle.cells.specs.Banks.{storable};
 ghost use Rattle.store.specs.Record.{viewed};
 ghost use Rattle.images.specs.Layout.{stored_hand, or_nil, stored_hands, stored_cell, stored_cells};
 ghost use Rattle.images.specs.Opening.{Opened, Rebuilt, WrittenBack};
 
-use crate::check;
-use crate::reading::{cell_at, hand_at};
+use crate::read;
+use crate::reading::Body;
 use cells::Field;
 use cells::banks::Bank;
 use cells::causes::Cause;
 use cells::leaves::LeafKind;
+use std::array;
 use store::record::Record;
 
-fn field_at(rest: &[u8], i: u8) -> Field
-    requires { 4 * i + 4 ≤ length rest.now }
-    ensures { result ≡ or_nil (stored_hand rest.now i) }
+// The hand with an index, nil where its bytes are no field.
+fn hand_in(body: &Body, i: u8) -> Field
+    requires { i < 16 }
+    ensures { result ≡ or_nil (stored_hand body.now.bytes.now i) }
 {
-    match hand_at(rest, i) {
-        Some(field) => field,
-        None => Field::Nil,
-    }
+    body.hand(i).unwrap_or(Field::Nil)
 }
 
-fn hands_at(rest: &[u8]) -> [Field; 16]
-    requires { 64 ≤ length rest.now }
-    ensures { result ≡ stored_hands rest.now }
+fn hands_in(body: &Body) -> [Field; 16]
+    ensures { result ≡ stored_hands body.now.bytes.now }
 {
-    let mut hands = [Field::Nil; 16];
-    for i in 0..16 {
-        hands[i as usize] = field_at(rest, i);
-    }
-    hands
+    array::from_fn(|i| hand_in(body, i as u8))
 }
 
-// Puts the cells of an image at the front of the bank.
-fn put_cells<V: LeafKind, B: Bank<V>>(bank: &mut B, rest: &[u8], count: u16)
-    requires sized { 64 + 9 * count ≤ length rest.now }
-    requires room { count ≤ length (B.cells bank.old) }
-    requires storables { (j : ℕ) → j < count → storable V.lawful (stored_cell V.taken rest.now j) ≡ true }
-    ensures after { B.cells bank.new ≡ stored_cells V.taken rest.now count ++ drop count (B.cells bank.old) }
+// Puts the cells of an image at the front of the bank, which takes them one by one, by address.
+fn put_cells<V: LeafKind, B: Bank<V>>(bank: &mut B, body: &Body)
+    requires room { body.now.count ≤ length (B.cells bank.old) }
+    requires storables { (j : ℕ) → j < body.now.count → storable V.lawful (stored_cell V.taken body.now.bytes.now j) ≡ true }
+    ensures after { B.cells bank.new ≡ stored_cells V.taken body.now.bytes.now body.now.count ++ drop body.now.count (B.cells bank.old) }
     ensures rooted { B.root bank.new ≡ B.root bank.old }
 {
-    for at in 0..count {
-        let _ = bank.put(at, &cell_at::<V>(rest, at));
+    for at in 0..body.count {
+        let _ = bank.put(at, &body.cell::<V>(at));
     }
 }
 
@@ -57,17 +50,13 @@ pub fn open<V: LeafKind, B: Bank<V>>(bank: &mut B, image: &[u8]) -> Result<Recor
     if size == 0 || size > 32768 {
         return Err(Cause::SizeOutOfRange);
     }
-    let _ = check::<V>(image)?;
-    let [_k0, _k1, r0, r1, rest @ ..] = image else {
-        return Err(Cause::NotAnImage);
-    };
-    let count = u16::from_be_bytes([*r0, *r1]);
-    if count as usize > size {
+    let body = read::<V>(image)?;
+    if body.count as usize > size {
         return Err(Cause::NoRoom);
     }
-    let hands = hands_at(rest);
-    put_cells::<V, B>(bank, rest, count);
-    Record::restored(size, count, &hands)
+    let hands = hands_in(&body);
+    put_cells::<V, B>(bank, &body);
+    Record::restored(size, body.count, &hands)
 }
 
 // What Open leaves of an image is written as that image.

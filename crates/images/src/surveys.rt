@@ -1,14 +1,17 @@
 // One pass over the places reads every field in visiting order, and counts references; another compares tags with the counts.
-ghost use Rattle.std.specs.Prelude.{◌≡◌, ◌+◌, ◌*◌, ◌<◌, ◌≤◌, length, Some, None};
+ghost use Rattle.std.specs.Prelude.{◌≡◌, ℕ, ◌+◌, ◌*◌, ◌<◌, ◌≤◌, List, MatchResult, OnOk, Option};
+ghost use Rattle.std.specs.Result.{result_err};
 ghost use Rattle.cells.specs.declared.Reference.{Reference as Referred};
 ghost use Rattle.cells.specs.declared.Field.TheVariants.{To as Refers};
 ghost use Rattle.graph.specs.Places.{meeting};
+ghost use Rattle.images.specs.declared.faults.Flaw.{Flaw as Flawed};
 ghost use Rattle.images.specs.Layout.{held};
-ghost use Rattle.images.specs.First.{first, misstep, too_early, hand_flaw, cell_flaw, hand_tag, cell_tags, first_flaw};
-ghost use Rattle.images.specs.Surveys.{Surveyed, noted, mistag, ReadTo, TaggedTo, Surveys};
+ghost use Rattle.images.specs.Faults.{Broken};
+ghost use Rattle.images.specs.First.{or_else, first, misstep, too_early, hand_flaw, cell_flaw, hand_tag, cell_tags, first_flaw};
+ghost use Rattle.images.specs.Surveys.{Surveyed, noted, mistag, Kept, Tagged, Surveys};
 
 use crate::faults::{Flaw, Place};
-use crate::reading::{cell_at, hand_at};
+use crate::reading::Body;
 use cells::leaves::LeafKind;
 use cells::{Cell, Field, Side, Tag};
 
@@ -21,21 +24,21 @@ pub struct Survey {
 }
 
 impl Survey {
-    // Reads the field of one more place, or tells its flaw.
-    fn visit(&mut self, place: Place, field: Field, count: u16) -> Option<Flaw>
+    // Reads the field of one more place.
+    fn visit(&mut self, place: Place, field: Field, count: u16) -> Result<(), Flaw>
         requires { count ≤ 32768 }
-        ensures flaw { result ≡ misstep place field count self.old.met }
-        ensures meets { result ≡ None → self.new.met ≡ meeting self.old.met field }
-        ensures tally { result ≡ None → self.new.references ≡ noted self.old.references field }
+        ensures flaw { result_err result ≡ misstep place field count self.old.met }
+        ensures meets { OnOk result (self.new.met ≡ meeting self.old.met field) }
+        ensures tally { OnOk result (self.new.references ≡ noted self.old.references field) }
     {
         let Field::To(r) = field else {
-            return None;
+            return Ok(());
         };
         if r.address >= count {
-            return Some(Flaw::Outside(place, r.address));
+            return Err(Flaw::Outside(place, r.address));
         }
         if r.address > self.met {
-            return Some(Flaw::OutOfOrder(place, r.address, self.met));
+            return Err(Flaw::OutOfOrder(place, r.address, self.met));
         }
         if r.address == self.met {
             self.met += 1;
@@ -44,27 +47,27 @@ impl Survey {
         if self.references[a] < 2 {
             self.references[a] += 1;
         }
-        None
+        Ok(())
     }
 
-    // Tells whether a cell is not met, when its own fields are to be read.
-    fn unmet(&self, j: u16) -> Option<Flaw>
-        ensures { result ≡ too_early j self.now.met }
+    // Whether a cell is met, when its own fields are to be read.
+    fn check_met(&self, j: u16) -> Result<(), Flaw>
+        ensures { result_err result ≡ too_early j self.now.met }
     {
         if self.met > j {
-            None
+            Ok(())
         } else {
-            Some(Flaw::Unmet(j))
+            Err(Flaw::Unmet(j))
         }
     }
 
-    // Tells whether the tag of the field at a place is wrong, once all places are read.
-    fn wrong_tag(&self, place: Place, field: Field) -> Option<Flaw>
+    // Whether the tag of the field at a place is right, once all places are read.
+    fn check_tag(&self, place: Place, field: Field) -> Result<(), Flaw>
         requires { (x : Referred) → field ≡ Refers x → x.address < 32768 }
-        ensures { result ≡ mistag place field self.now.references }
+        ensures { result_err result ≡ mistag place field self.now.references }
     {
         let Field::To(r) = field else {
-            return None;
+            return Ok(());
         };
         let shared = self.references[r.address as usize] >= 2;
         let right = match r.tag {
@@ -72,145 +75,115 @@ impl Survey {
             Tag::Sticky => shared,
         };
         if right {
-            None
+            Ok(())
         } else {
-            Some(Flaw::WrongTag(place, r))
+            Err(Flaw::WrongTag(place, r))
         }
     }
 }
 
-// The first pass, over the hands.
-fn read_hands<V: LeafKind>(rest: &[u8], count: u16, survey: &mut Survey) -> Option<Flaw>
-    requires sized { length rest.now ≡ 64 + 9 * count }
-    requires few { count ≤ 32768 }
-    requires fresh { Surveyed (held V.taken rest.now count) 0 survey.old }
-    ensures kept { ReadTo V.taken rest.now count 16 survey.new result }
-    ensures flaw { result ≡ first (hand_flaw V.taken rest.now count) 16 }
+// A pass over the hands and cells of an image, in visiting order.
+trait Pass<V: LeafKind> {
+    // what holds once it is past the places below a number
+    ghost past: { Self → List ℕ → ℕ → ℕ → Type 0 };
+
+    // the flaw of a hand, and of a cell
+    ghost hand_flaw: { List ℕ → ℕ → ℕ → Option Flawed };
+
+    ghost cell_flaw: { List ℕ → ℕ → ℕ → Option Flawed };
+
+    fn at_hand(&mut self, body: &Body, i: u8) -> Result<(), Flaw>
+        requires within { i < 16 }
+        requires before { past self.old body.now.bytes.now body.now.count i }
+        ensures kept { MatchResult result (λ _. past self.new body.now.bytes.now body.now.count (i + 1)) (Broken V.taken body.now.bytes.now body.now.count) }
+        ensures flaw { result_err result ≡ hand_flaw body.now.bytes.now body.now.count i };
+
+    fn at_cell(&mut self, body: &Body, j: u16) -> Result<(), Flaw>
+        requires within { j < body.now.count }
+        requires before { past self.old body.now.bytes.now body.now.count (16 + 2 * j) }
+        ensures kept { MatchResult result (λ _. past self.new body.now.bytes.now body.now.count (18 + 2 * j)) (Broken V.taken body.now.bytes.now body.now.count) }
+        ensures flaw { result_err result ≡ cell_flaw body.now.bytes.now body.now.count j };
+}
+
+// A loop goes by index, since a flaw names its place by one.
+fn run<V: LeafKind, P: Pass<V>>(pass: &mut P, body: &Body) -> Result<(), Flaw>
+    requires { P.past pass.old body.now.bytes.now body.now.count 0 }
+    ensures kept { MatchResult result (λ _. P.past pass.new body.now.bytes.now body.now.count (16 + 2 * body.now.count)) (Broken V.taken body.now.bytes.now body.now.count) }
+    ensures flaw { result_err result ≡ or_else (first (P.hand_flaw body.now.bytes.now body.now.count) 16) (first (P.cell_flaw body.now.bytes.now body.now.count) body.now.count) }
 {
     for i in 0..16 {
-        let Some(field) = hand_at(rest, i) else {
-            return Some(Flaw::BadHand(i));
+        pass.at_hand(body, i)?;
+    }
+    for j in 0..body.count {
+        pass.at_cell(body, j)?;
+    }
+    Ok(())
+}
+
+// The first pass. That all cells are met is no test of its own: the last is met before it is read.
+impl<V: LeafKind> Pass<V> for Survey {
+    ghost past = { λ survey rest r p. Kept V.taken rest r p × Surveyed (held V.taken rest r) p survey };
+
+    ghost hand_flaw = { hand_flaw V.taken };
+
+    ghost cell_flaw = { cell_flaw V.taken };
+
+    fn at_hand(&mut self, body: &Body, i: u8) -> Result<(), Flaw> {
+        let field = body.hand(i).ok_or(Flaw::BadHand(i))?;
+        self.visit(Place::Hand(i), field, body.count)
+    }
+
+    fn at_cell(&mut self, body: &Body, j: u16) -> Result<(), Flaw> {
+        self.check_met(j)?;
+        match body.cell::<V>(j) {
+            Cell::Pair { left, right } => {
+                self.visit(Place::Cell(Side::Left, j), left, body.count)?;
+                self.visit(Place::Cell(Side::Right, j), right, body.count)
+            }
+            Cell::Leaf(_) => Ok(()),
+            Cell::Blank | Cell::Moved { .. } => Err(Flaw::BadCell(j)),
+        }
+    }
+}
+
+// The second pass, with the survey that the first one left.
+#[derive(Drop)]
+struct Tags<'a> {
+    survey: &'a Survey,
+}
+
+impl<V: LeafKind> Pass<V> for Tags<'_> {
+    ghost past = { λ tags rest r p. Kept V.taken rest r (16 + 2 * r) × Surveyed (held V.taken rest r) (16 + 2 * r) tags.survey.now × Tagged (held V.taken rest r) p };
+
+    ghost hand_flaw = { hand_tag V.taken };
+
+    ghost cell_flaw = { cell_tags V.taken };
+
+    fn at_hand(&mut self, body: &Body, i: u8) -> Result<(), Flaw> {
+        match body.hand(i) {
+            Some(field) => self.survey.check_tag(Place::Hand(i), field),
+            None => Ok(()),
+        }
+    }
+
+    fn at_cell(&mut self, body: &Body, j: u16) -> Result<(), Flaw> {
+        let Cell::Pair { left, right } = body.cell::<V>(j) else {
+            return Ok(());
         };
-        if let Some(flaw) = survey.visit(Place::Hand(i), field, count) {
-            return Some(flaw);
-        }
-    }
-    None
-}
-
-// Reads one more cell, or tells its flaw.
-fn read_cell<V: LeafKind>(rest: &[u8], count: u16, j: u16, survey: &mut Survey) -> Option<Flaw>
-    requires sized { length rest.now ≡ 64 + 9 * count }
-    requires few { count ≤ 32768 }
-    requires next { j < count }
-    requires before { ReadTo V.taken rest.now count (16 + 2 * j) survey.old None }
-    ensures kept { ReadTo V.taken rest.now count (18 + 2 * j) survey.new result }
-    ensures flaw { result ≡ cell_flaw V.taken rest.now count j }
-{
-    if let Some(flaw) = survey.unmet(j) {
-        return Some(flaw);
-    }
-    match cell_at::<V>(rest, j) {
-        Cell::Pair { left, right } => {
-            if let Some(flaw) = survey.visit(Place::Cell(Side::Left, j), left, count) {
-                return Some(flaw);
-            }
-            survey.visit(Place::Cell(Side::Right, j), right, count)
-        }
-        Cell::Leaf(_) => None,
-        Cell::Blank | Cell::Moved { .. } => Some(Flaw::BadCell(j)),
+        self.survey.check_tag(Place::Cell(Side::Left, j), left)?;
+        self.survey.check_tag(Place::Cell(Side::Right, j), right)
     }
 }
 
-// The first pass, over the cells. That all cells are met is no test of its own: the last is met before it is read.
-fn read_cells<V: LeafKind>(rest: &[u8], count: u16, survey: &mut Survey) -> Option<Flaw>
-    requires sized { length rest.now ≡ 64 + 9 * count }
-    requires few { count ≤ 32768 }
-    requires hands { ReadTo V.taken rest.now count 16 survey.old None }
-    ensures kept { ReadTo V.taken rest.now count (16 + 2 * count) survey.new result }
-    ensures flaw { result ≡ first (cell_flaw V.taken rest.now count) count }
-{
-    for j in 0..count {
-        if let Some(flaw) = read_cell::<V>(rest, count, j, survey) {
-            return Some(flaw);
-        }
-    }
-    None
-}
-
-// The second pass, over the hands.
-fn check_hands<V: LeafKind>(rest: &[u8], count: u16, survey: &Survey) -> Option<Flaw>
-    requires sized { length rest.now ≡ 64 + 9 * count }
-    requires few { count ≤ 32768 }
-    requires read { ReadTo V.taken rest.now count (16 + 2 * count) survey.now None }
-    ensures kept { TaggedTo V.taken rest.now count 16 result }
-    ensures flaw { result ≡ first (hand_tag V.taken rest.now count) 16 }
-{
-    for i in 0..16 {
-        if let Some(field) = hand_at(rest, i) {
-            if let Some(flaw) = survey.wrong_tag(Place::Hand(i), field) {
-                return Some(flaw);
-            }
-        }
-    }
-    None
-}
-
-// The second pass, at one more cell.
-fn check_cell<V: LeafKind>(rest: &[u8], count: u16, j: u16, survey: &Survey) -> Option<Flaw>
-    requires sized { length rest.now ≡ 64 + 9 * count }
-    requires few { count ≤ 32768 }
-    requires next { j < count }
-    requires read { ReadTo V.taken rest.now count (16 + 2 * count) survey.now None }
-    requires before { TaggedTo V.taken rest.now count (16 + 2 * j) None }
-    ensures kept { TaggedTo V.taken rest.now count (18 + 2 * j) result }
-    ensures flaw { result ≡ cell_tags V.taken rest.now count j }
-{
-    let Cell::Pair { left, right } = cell_at::<V>(rest, j) else {
-        return None;
-    };
-    if let Some(flaw) = survey.wrong_tag(Place::Cell(Side::Left, j), left) {
-        return Some(flaw);
-    }
-    survey.wrong_tag(Place::Cell(Side::Right, j), right)
-}
-
-// The second pass, over the cells.
-fn check_cells<V: LeafKind>(rest: &[u8], count: u16, survey: &Survey) -> Option<Flaw>
-    requires sized { length rest.now ≡ 64 + 9 * count }
-    requires few { count ≤ 32768 }
-    requires read { ReadTo V.taken rest.now count (16 + 2 * count) survey.now None }
-    requires hands { TaggedTo V.taken rest.now count 16 None }
-    ensures kept { TaggedTo V.taken rest.now count (16 + 2 * count) result }
-    ensures flaw { result ≡ first (cell_tags V.taken rest.now count) count }
-{
-    for j in 0..count {
-        if let Some(flaw) = check_cell::<V>(rest, count, j, survey) {
-            return Some(flaw);
-        }
-    }
-    None
-}
-
-// The first flaw of sixteen hands and `count` cells, or none where they keep every rule.
-pub fn first_flaw<V: LeafKind>(rest: &[u8], count: u16) -> Option<Flaw>
-    requires sized { length rest.now ≡ 64 + 9 * count }
-    requires few { count ≤ 32768 }
-    ensures kept { Surveys V.taken rest.now count result }
-    ensures flaw { result ≡ first_flaw V.taken rest.now count }
+// Both passes: the first flaw of the hands and cells, where they break a rule.
+pub fn check_body<V: LeafKind>(body: &Body) -> Result<(), Flaw>
+    ensures kept { Surveys V.taken body.now.bytes.now body.now.count (result_err result) }
+    ensures flaw { result_err result ≡ first_flaw V.taken body.now.bytes.now body.now.count }
 {
     let mut survey = Survey {
         met: 0,
         references: [0; 32768],
     };
-    if let Some(flaw) = read_hands::<V>(rest, count, &mut survey) {
-        return Some(flaw);
-    }
-    if let Some(flaw) = read_cells::<V>(rest, count, &mut survey) {
-        return Some(flaw);
-    }
-    if let Some(flaw) = check_hands::<V>(rest, count, &survey) {
-        return Some(flaw);
-    }
-    check_cells::<V>(rest, count, &survey)
+    run::<V, Survey>(&mut survey, body)?;
+    run::<V, Tags>(&mut Tags { survey: &survey }, body)
 }

@@ -1,11 +1,12 @@
 // Writing the image of a store: one pass over the kept cells to see that they are pairs and leaves, another to write them.
 ghost use Rattle.std.specs.Prelude.{◌≡◌, ◌+◌, ◌*◌, ◌≤◌, ◌++◌, length, take};
 ghost use Rattle.std.specs.List.{flat_map};
+ghost use Rattle.std.specs.Result.{result_err};
+ghost use Rattle.cells.specs.Banks.{cell_at};
 ghost use Rattle.packing.specs.Cells.{pack_cell};
-ghost use Rattle.graph.specs.Places.{is_node};
 ghost use Rattle.store.specs.Record.{view};
 ghost use Rattle.images.specs.Layout.{two_bytes, hand_bytes};
-ghost use Rattle.images.specs.Writing.{all_nodes, length_for, pasted, write_cause, write_answer, bytes_after};
+ghost use Rattle.images.specs.Writing.{node_found, all_nodes, length_for, pasted, write_cause, write_answer, bytes_after};
 
 use cells::banks::Bank;
 use cells::causes::Cause;
@@ -15,13 +16,11 @@ use packing::{pack_cell, pack_field};
 use store::Mode;
 use store::record::Record;
 
-fn is_node<V: LeafKind>(cell: &Cell<V>) -> bool
-    ensures { result ≡ is_node cell.now }
+// Whether a pair or a leaf is at an address.
+fn is_node_at<V: LeafKind, B: Bank<V>>(bank: &B, at: u16) -> bool
+    ensures { result ≡ node_found (cell_at (B.cells bank.now) at) }
 {
-    match *cell {
-        Cell::Pair { .. } | Cell::Leaf(_) => true,
-        Cell::Blank | Cell::Moved { .. } => false,
-    }
+    matches!(bank.read(at), Some(Cell::Pair { .. } | Cell::Leaf(_)))
 }
 
 // Whether each of the first `count` cells is a pair or a leaf.
@@ -29,15 +28,7 @@ fn all_nodes<V: LeafKind, B: Bank<V>>(bank: &B, count: u16) -> bool
     requires { count ≤ length (B.cells bank.now) }
     ensures { result ≡ all_nodes (take count (B.cells bank.now)) }
 {
-    for at in 0..count {
-        let Some(cell) = bank.read(at) else {
-            return false;
-        };
-        if !is_node(&cell) {
-            return false;
-        }
-    }
-    true
+    (0..count).all(|at| is_node_at::<V, B>(bank, at))
 }
 
 // Writes a part over the bytes from an offset on.
@@ -66,6 +57,7 @@ fn write_hands(hands: &[Field; 16], bytes: &mut [u8])
     }
 }
 
+// A bank gives its cells one by one, by address.
 fn write_cells<V: LeafKind, B: Bank<V>>(bank: &B, count: u16, bytes: &mut [u8])
     requires held { count ≤ length (B.cells bank.now) }
     requires room { length_for count ≤ length bytes.old }
@@ -78,27 +70,32 @@ fn write_cells<V: LeafKind, B: Bank<V>>(bank: &B, count: u16, bytes: &mut [u8])
     }
 }
 
-// Why the image of the store cannot be written to so many bytes, if it cannot.
-fn refusal<V: LeafKind, B: Bank<V>>(record: &Record, bank: &B, space: usize) -> Option<Cause>
-    ensures { result ≡ write_cause (view «record».now) (B.cells bank.now) space }
+// Whether the image of the store can be written to so many bytes.
+#[tactic(auto, using(std::proofs::lemmas::Bool::Decides::nat_tests), unfolding(crate::specs::Writing::write_cause))]
+fn check_writable<V: LeafKind, B: Bank<V>>(
+    record: &Record,
+    bank: &B,
+    space: usize,
+) -> Result<(), Cause>
+    ensures { result_err result ≡ write_cause (view «record».now) (B.cells bank.now) space }
 {
     if bank.size() != record.size() as usize {
-        return Some(Cause::OtherSize);
+        return Err(Cause::OtherSize);
     }
     let mode = record.mode();
     if let Mode::Collecting { .. } = mode {
-        return Some(Cause::Collecting);
+        return Err(Cause::Collecting);
     }
     if !all_nodes::<V, B>(bank, record.mark()) {
-        return Some(Cause::Spoiled);
+        return Err(Cause::Spoiled);
     }
     if let Mode::Working = mode {
-        return Some(Cause::NotSettled);
+        return Err(Cause::NotSettled);
     }
     if space < image_length(record.mark()) {
-        return Some(Cause::TooFewBytes);
+        return Err(Cause::TooFewBytes);
     }
-    None
+    Ok(())
 }
 
 fn image_length(count: u16) -> usize
@@ -108,6 +105,7 @@ fn image_length(count: u16) -> usize
 }
 
 // Writes the image of the store to the front of the bytes and answers its length, or refuses and writes nothing.
+#[tactic(auto, using(crate::proofs::Written::none_tells))]
 pub fn write<V: LeafKind, B: Bank<V>>(
     record: &Record,
     bank: &B,
@@ -116,9 +114,7 @@ pub fn write<V: LeafKind, B: Bank<V>>(
     ensures answer { result ≡ write_answer (view «record».now) (B.cells bank.now) (length bytes.old) }
     ensures after { bytes.new ≡ bytes_after V.lawful V.word V.number (view «record».now) (B.cells bank.now) bytes.old }
 {
-    if let Some(cause) = refusal::<V, B>(record, bank, bytes.len()) {
-        return Err(cause);
-    }
+    check_writable::<V, B>(record, bank, bytes.len())?;
     let count = record.mark();
     write_heading::<V>(bytes, count);
     write_hands(&record.hands(), bytes);

@@ -1,11 +1,17 @@
 -- How many hands of an image are in use, and how many cells of each kind it has. Assumes nothing.
-use Rattle.std.specs.Prelude.{ℕ, zero, suc, List, Some, None, Option}
+use Rattle.std.specs.Prelude.{ℕ, zero, suc, Bool, true, false, List, Some, None, Option}
 use Rattle.cells.specs.declared.Field.{Field}
 use Rattle.cells.specs.declared.Field.TheVariants.{Nil, To}
 use Rattle.cells.specs.declared.Cell.{Cell}
 use Rattle.images.specs.Images.{hand_of, cell_of}
 use Rattle.dumps.specs.declared.Tally.{Tally}
 use Rattle.dumps.specs.Shown.{noted}
+
+-- whether a hand refers to a cell
+abbrev pub in_use : Option Field → Bool
+in_use None = false
+in_use (Some Nil) = false
+in_use (Some (To r)) = true
 
 -- one more, for a hand that refers to a cell
 abbrev pub counted : ℕ → Option Field → ℕ

@@ -1,6 +1,6 @@
 // Where two images first differ.
 ghost use Rattle.std.specs.Prelude.{◌≡◌, true, IfOk, string_bytes, Decides};
-ghost use Rattle.cells.specs.Banks.{leaf_lawful, found_lawful};
+ghost use Rattle.cells.specs.Banks.{found_lawful};
 ghost use Rattle.images.specs.Images.{hand_of, cell_of};
 ghost use Rattle.images.specs.Layout.{or_nil};
 ghost use Rattle.cells.specs.Shown.{field_text};
@@ -10,71 +10,33 @@ use cells::leaves::LeafKind;
 use cells::{Cell, Field};
 use dumps::cell_text;
 use images::{cell_of, hand_of};
+use packing::pack_cell;
 use std::alloc::{AllocError, Global};
 use texts::typed::TypedLeaf;
 
 // The first hand that differs, or else the first cell, which one of the images may have and the other not.
-#[derive(Clone, Copy, Debug)]
+#[derive(Clone, Copy, PartialEq, Eq, Debug)]
 pub enum Difference {
     Hand(u8),
     Cell(u16),
 }
 
-fn same_hand(x: Option<Field>, y: Option<Field>) -> bool
-    ensures { Decides result (x ≡ y) }
-{
-    match (x, y) {
-        (Some(f), Some(g)) => f == g,
-        (None, None) => true,
-        _ => false,
-    }
-}
-
 fn hand_apart(a: &[u8], b: &[u8]) -> Option<u8>
     ensures { FirstApart (hand_of a.now) (hand_of b.now) 16 result }
 {
-    for i in 0..16 {
-        if !same_hand(hand_of(a, i), hand_of(b, i)) {
-            return Some(i);
-        }
-    }
-    None
+    (0..16).find(|&i| hand_of(a, i) != hand_of(b, i))
 }
 
-// Whether two cells with lawful leaves are equal.
-fn same_cell<V: LeafKind>(x: Cell<V>, y: Cell<V>) -> bool
-    requires left { leaf_lawful V.lawful x ≡ true }
-    requires right { leaf_lawful V.lawful y ≡ true }
-    ensures { Decides result (x ≡ y) }
-{
-    match (x, y) {
-        (Cell::Blank, Cell::Blank) => true,
-        (Cell::Pair { left, right }, Cell::Pair { left: l, right: r }) => left == l && right == r,
-        (Cell::Leaf(v), Cell::Leaf(w)) => v.to_word() == w.to_word(),
-        (
-            Cell::Moved { forward, source },
-            Cell::Moved {
-                forward: f,
-                source: s,
-            },
-        ) => forward == f && source == s,
-        _ => false,
-    }
-}
-
-// The same of cells that may be missing.
+// Whether two cells that may be missing are equal, told by their bytes: a leaf's value need not be comparable.
 fn same_found<V: LeafKind>(x: Option<Cell<V>>, y: Option<Cell<V>>) -> bool
     requires left { found_lawful V.lawful x ≡ true }
     requires right { found_lawful V.lawful y ≡ true }
     ensures { Decides result (x ≡ y) }
 {
-    match (x, y) {
-        (Some(c), Some(d)) => same_cell(c, d),
-        (None, None) => true,
-        _ => false,
-    }
+    x.as_ref().map(pack_cell) == y.as_ref().map(pack_cell)
 }
 
+// A loop and no `find`, whose lemmas are about ranges without their end: the last address is the largest number of its type.
 fn cell_apart<V: LeafKind>(a: &[u8], b: &[u8]) -> Option<u16>
     ensures { FirstApart (cell_of V.taken a.now) (cell_of V.taken b.now) 65536 result }
 {
@@ -90,13 +52,9 @@ fn cell_apart<V: LeafKind>(a: &[u8], b: &[u8]) -> Option<u16>
 pub fn first_difference<V: LeafKind>(a: &[u8], b: &[u8]) -> Option<Difference>
     ensures { Differs V.taken a.now b.now result }
 {
-    if let Some(i) = hand_apart(a, b) {
-        return Some(Difference::Hand(i));
-    }
-    match cell_apart::<V>(a, b) {
-        Some(at) => Some(Difference::Cell(at)),
-        None => None,
-    }
+    hand_apart(a, b)
+        .map(Difference::Hand)
+        .or_else(|| cell_apart::<V>(a, b).map(Difference::Cell))
 }
 
 // A cell in words, or that there is none.

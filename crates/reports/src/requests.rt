@@ -2,13 +2,13 @@
 ghost use Rattle.std.specs.Prelude.{◌≡◌, ℕ, ◌-◌, List, length};
 ghost use Rattle.reports.specs.Requests.{word_at, kind_word, Says, Only, Asks};
 
-#[derive(Clone, Copy, Debug)]
+#[derive(Clone, Copy, PartialEq, Eq, Debug)]
 pub enum Kind {
     Point,
     Instruction,
 }
 
-#[derive(Clone, Copy, Debug)]
+#[derive(Clone, Copy, PartialEq, Eq, Debug)]
 pub enum Task {
     // The leaf values of a list.
     Leaves,
@@ -26,21 +26,20 @@ pub enum Task {
     Draw,
 }
 
-#[derive(Clone, Copy, Debug)]
+#[derive(Clone, Copy, PartialEq, Eq, Debug)]
 pub struct Request {
     pub kind: Kind,
     pub task: Task,
 }
 
+// An Option, here and below: `FromStr` would need an error, which nobody would read.
 fn kind_of(word: &str) -> Option<Kind>
     ensures { Only (λ k. word.now ≡ kind_word k) result }
 {
-    if word == "point" {
-        Some(Kind::Point)
-    } else if word == "instruction" {
-        Some(Kind::Instruction)
-    } else {
-        None
+    match word {
+        "point" => Some(Kind::Point),
+        "instruction" => Some(Kind::Instruction),
+        _ => None,
     }
 }
 
@@ -48,16 +47,12 @@ fn kind_of(word: &str) -> Option<Kind>
 fn task_on_one(word: &str) -> Option<Task>
     ensures { (second : List ℕ) → Only (Says word.now 1 second) result }
 {
-    if word == "leaves" {
-        Some(Task::Leaves)
-    } else if word == "dump" {
-        Some(Task::Dump)
-    } else if word == "check" {
-        Some(Task::Check)
-    } else if word == "show" {
-        Some(Task::Show)
-    } else {
-        None
+    match word {
+        "leaves" => Some(Task::Leaves),
+        "dump" => Some(Task::Dump),
+        "check" => Some(Task::Check),
+        "show" => Some(Task::Show),
+        _ => None,
     }
 }
 
@@ -65,14 +60,11 @@ fn task_on_one(word: &str) -> Option<Task>
 fn task_on_two(word: &str, second: &str) -> Option<Task>
     ensures { Only (Says word.now 2 second.now) result }
 {
-    if word == "leaves" {
-        Some(Task::SameLeaves)
-    } else if word == "compare" {
-        Some(Task::Compare)
-    } else if word == "show" && second == "--dot" {
-        Some(Task::Draw)
-    } else {
-        None
+    match (word, second) {
+        ("leaves", _) => Some(Task::SameLeaves),
+        ("compare", _) => Some(Task::Compare),
+        ("show", "--dot") => Some(Task::Draw),
+        _ => None,
     }
 }
 
@@ -80,22 +72,19 @@ fn task_on_two(word: &str, second: &str) -> Option<Task>
 fn task_in(words: &[String]) -> Option<Task>
     ensures { Only (Says (word_at words.now 1) (length words.now - 3) (word_at words.now 4)) result }
 {
-    if words.len() == 4 {
-        task_on_one(words[1].as_str())
-    } else if words.len() == 5 {
-        task_on_two(words[1].as_str(), words[4].as_str())
-    } else {
-        None
+    match words {
+        [_, task, _, _] => task_on_one(task.as_str()),
+        [_, task, _, _, second] => task_on_two(task.as_str(), second.as_str()),
+        _ => None,
     }
 }
 
 fn kind_in(words: &[String]) -> Option<Kind>
     ensures { Only (λ k. word_at words.now 2 ≡ kind_word k) result }
 {
-    if words.len() > 2 {
-        kind_of(words[2].as_str())
-    } else {
-        None
+    match words {
+        [_, _, kind, ..] => kind_of(kind.as_str()),
+        _ => None,
     }
 }
 

@@ -1,7 +1,7 @@
 // Which cells of an image are shared, for its drawing.
 ghost use Rattle.std.specs.Prelude.{◌≡◌};
 ghost use Rattle.images.specs.Layout.{or_nil};
-ghost use Rattle.reports.specs.Sharing.{marked, marked_sides, marked_cells, is_marked};
+ghost use Rattle.reports.specs.Sharing.{marked_by, marked, marked_sides, marked_cells, is_marked};
 
 use cells::leaves::LeafKind;
 use cells::{Cell, Field, Tag};
@@ -14,20 +14,22 @@ pub struct Shared {
 }
 
 impl Shared {
+    // By index and no `get_mut`, of which no proof was found that the write reaches the mark.
+    fn mark_address(&mut self, at: u16)
+        ensures { self.new.marks ≡ marked_by Tag.Sticky self.old.marks at }
+    {
+        let a = at as usize;
+        if a < self.marks.len() {
+            self.marks[a] = true;
+        }
+    }
+
     fn mark(&mut self, field: Field)
         ensures { self.new.marks ≡ marked self.old.marks field }
     {
-        let Field::To(r) = field else {
-            return;
-        };
-        let a = r.address as usize;
-        match r.tag {
-            Tag::Unique => {}
-            Tag::Sticky => {
-                if a < 32768 {
-                    self.marks[a] = true;
-                }
-            }
+        match field {
+            Field::To(r) if r.tag == Tag::Sticky => self.mark_address(r.address),
+            _ => {}
         }
     }
 
@@ -52,12 +54,11 @@ impl Shared {
     pub fn has(&self, at: u16) -> bool
         ensures { result ≡ is_marked self.now.marks at }
     {
-        let a = at as usize;
-        if a < 32768 { self.marks[a] } else { false }
+        self.marks.get(at as usize).copied().unwrap_or(false)
     }
 }
 
-// The shared cells among the first cells of an image.
+// The shared cells among the first cells of an image. Loops, since a fold would move the marks at each cell.
 pub fn shared_cells<V: LeafKind>(image: &[u8], count: u16) -> Shared
     ensures { result.marks ≡ marked_cells V.taken image.now count }
 {

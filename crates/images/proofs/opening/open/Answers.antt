@@ -1,71 +1,47 @@
-use Rattle.std.proofs.Common.{◌≡◌, ◌<◌, ◌≤◌, true, ◌++◌, length, drop, Ok, Err, sym, refl, ap, ◌∙◌, subst, ⊎_elim, arith, rules}
-use Rattle.std.proofs.lemmas.List.{take_rest, length-drop}
+use Rattle.std.proofs.Common.{◌≡◌, true, ◌++◌, length, drop, Ok, sym, refl, ap, ◌∙◌, subst, ⊎_elim, arith}
 use Rattle.std.proofs.lemmas.Result.{err_from_is_err_and}
-use Rattle.cells.specs.declared.causes.Cause.TheVariants.{SizeOutOfRange, NotAnImage, NoRoom}
+use Rattle.cells.specs.declared.causes.Cause.TheVariants.{NoRoom}
 use Rattle.cells.specs.Banks.{storable}
 use Rattle.store.specs.Record.{viewed}
 use Rattle.store.specs.Restoring.{settled_model, restored_model}
 use Rattle.images.specs.Layout.{stored_hands, stored_cell, stored_cells, count_in, hands_in}
 use Rattle.images.specs.Opening.{Allowed, Refused, size_out, no_image, no_room, Restored, Opened, Rebuilt}
-use Rattle.images.proofs.Reopened.{rest_long, cells_storable, record_made, accepts, refuses}
+use Rattle.images.proofs.Reopened.{cells_storable, record_made, accepts, refuses}
 use Rattle.images.proofs.opening.open.Goals as goal
 
-pub returns-then-size-eq0 : goal.returns-then-size-eq0
-returns-then-size-eq0 g c =
-    let why : Refused g.V.LeafKind.lawful g.V.LeafKind.word g.V.LeafKind.taken g.V.LeafKind.number (length (g.B.Bank.cells c.args.bank.now)) c.args.image.now SizeOutOfRange = size_out (λ ok. ⊎_elim (λ e. omega (arith, ok.0, ok.1)) (λ e. omega (arith, ok.0, ok.1)) c.then-size-eq0.either) in
-    record { opened = (why, refl); rebuilt = refuses g.met.V.LeafKind.laws g.V.LeafKind.number c.args.image.now (g.B.Bank.cells c.args.bank.now) SizeOutOfRange why; rooted = refl }
+pub returns-then-size-eq0-clause-opened : goal.returns-then-size-eq0-clause-opened
+returns-then-size-eq0-clause-opened g c = (size_out (λ ok. ⊎_elim (λ e. omega (arith, ok.0, ok.1)) (λ e. omega (arith, ok.0, ok.1)) c.then-size-eq0.either), refl)
 
-pub returns-in_err-check : goal.returns-in_err-check
-returns-in_err-check g c =
+pub returns-in_err-body-clause-opened : goal.returns-in_err-body-clause-opened
+returns-in_err-body-clause-opened g c =
     let p = err_from_is_err_and c.from_residual.result c.from_residual.ensures.1 in
-    let is : viewed c.from_residual.result ≡ Err NotAnImage = ap viewed (p.1 ∙ ap Err (p.2 ∙ c.in_err-check.ensures.checked.0)) in
-    let why : Refused g.V.LeafKind.lawful g.V.LeafKind.word g.V.LeafKind.taken g.V.LeafKind.number (length (g.B.Bank.cells c.args.bank.now)) c.args.image.now NotAnImage = no_image (omega arith, omega arith) c.in_err-check.ensures.checked.1 in
-    record {
-      opened = subst (λ a. Opened g.V.LeafKind.lawful g.V.LeafKind.word g.V.LeafKind.taken g.V.LeafKind.number c.args.image.now (g.B.Bank.cells c.args.bank.now) a (g.B.Bank.cells c.args.bank.now)) (sym is) (why, refl);
-      rebuilt = subst (λ a. Rebuilt g.V.LeafKind.lawful g.V.LeafKind.word g.V.LeafKind.taken g.V.LeafKind.number c.args.image.now (g.B.Bank.cells c.args.bank.now) a (g.B.Bank.cells c.args.bank.now)) (sym is) (refuses g.met.V.LeafKind.laws g.V.LeafKind.number c.args.image.now (g.B.Bank.cells c.args.bank.now) NotAnImage why);
-      rooted = refl;
-    }
+    rw (p.1, p.2, c.in_err-body.ensures.checked.0) (no_image (omega arith, omega arith) c.in_err-body.ensures.checked.1, refl)
 
-pub returns-in_default : goal.returns-in_default
-returns-in_default g c = absurd (let l = rest_long g.met.V.LeafKind.laws g.V.LeafKind.number c.args.image.now c.in_ok-check.ensures.holds in let short : length c.args.image.now < 4 = search rules in omega arith)
-
-pub returns-then-count-size : goal.returns-then-count-size
-returns-then-count-size g c =
-    let why : Refused g.V.LeafKind.lawful g.V.LeafKind.word g.V.LeafKind.taken g.V.LeafKind.number (length (g.B.Bank.cells c.args.bank.now)) c.args.image.now NoRoom = no_room (omega arith, omega arith) c.in_ok-check.ensures.holds (omega arith) in
+pub returns-then-body-size : goal.returns-then-body-size
+returns-then-body-size g c =
+    let at = c.in_ok-body.ensures.rest in
+    let why : Refused g.V.LeafKind.lawful g.V.LeafKind.word g.V.LeafKind.taken g.V.LeafKind.number (length (g.B.Bank.cells c.args.bank.now)) c.args.image.now NoRoom = no_room (omega arith, omega arith) c.in_ok-body.ensures.holds (omega arith) in
     record { opened = (why, refl); rebuilt = refuses g.met.V.LeafKind.laws g.V.LeafKind.number c.args.image.now (g.B.Bank.cells c.args.bank.now) NoRoom why; rooted = refl }
 
-pub hands_at-hands-requires : goal.hands_at-hands-requires
-hands_at-hands-requires g c =
-    let l = rest_long g.met.V.LeafKind.laws g.V.LeafKind.number c.args.image.now c.in_ok-check.ensures.holds in
-    subst (λ r. 64 ≤ length r) (sym (take_rest c.args.image.now 4)) (let d = length-drop 4 c.args.image.now in omega arith)
-
-pub put_cells-requires : goal.put_cells-requires
-put_cells-requires g c =
-    let l = rest_long g.met.V.LeafKind.laws g.V.LeafKind.number c.args.image.now c.in_ok-check.ensures.holds in
-    let d = length-drop 4 c.args.image.now in
-    let r = take_rest c.args.image.now 4 in
-    let n = ap length r in
-    record {
-      sized = omega arith;
-      room = omega arith;
-      storables = λ j h. subst (λ rest. storable g.V.LeafKind.lawful (stored_cell g.V.LeafKind.taken rest j) ≡ true) (sym r) (cells_storable g.met.V.LeafKind.laws g.V.LeafKind.number c.args.image.now c.in_ok-check.ensures.holds j (omega arith));
-    }
+pub put_cells-requires-clause-storables : goal.put_cells-requires-clause-storables
+put_cells-requires-clause-storables g c =
+    let at = c.in_ok-body.ensures.rest in
+    λ j h. subst (λ rest. storable g.V.LeafKind.lawful (stored_cell g.V.LeafKind.taken rest j) ≡ true) (sym at.0) (cells_storable g.met.V.LeafKind.laws g.V.LeafKind.number c.args.image.now c.in_ok-body.ensures.holds j (omega arith))
 
 pub returns : goal.returns
 returns g c =
-    let r = take_rest c.args.image.now 4 in
+    let at = c.in_ok-body.ensures.rest in
     let ok : Allowed (length (g.B.Bank.cells c.args.bank.now)) = (omega arith, omega arith) in
-    let count : c.from_be_bytes-count.result ≡ count_in c.args.image.now = c.from_be_bytes-count.ensures in
-    let hands : c.hands_at-hands.result ≡ hands_in c.args.image.now = c.hands_at-hands.ensures ∙ ap stored_hands r in
+    let hands : c.hands_in-hands.result ≡ hands_in c.args.image.now = c.hands_in-hands.ensures ∙ ap stored_hands at.0 in
     let made : viewed c.restored.result ≡ Ok (settled_model (length (g.B.Bank.cells c.args.bank.now)) (count_in c.args.image.now) (hands_in c.args.image.now)) =
-    c.restored.ensures ∙ (λ i. restored_model (c.size-size.ensures i) (count i) (hands i)) ∙ record_made g.met.V.LeafKind.laws g.V.LeafKind.number c.args.image.now c.in_ok-check.ensures.holds (length (g.B.Bank.cells c.args.bank.now)) ok (omega arith) in
+    c.restored.ensures ∙ (λ i. restored_model (c.size-size.ensures i) (at.1 i) (hands i)) ∙ record_made g.met.V.LeafKind.laws g.V.LeafKind.number c.args.image.now c.in_ok-body.ensures.holds (length (g.B.Bank.cells c.args.bank.now)) ok (omega arith) in
     let whole : Restored g.V.LeafKind.lawful g.V.LeafKind.word g.V.LeafKind.taken g.V.LeafKind.number c.args.image.now (g.B.Bank.cells c.args.bank.now) (settled_model (length (g.B.Bank.cells c.args.bank.now)) (count_in c.args.image.now) (hands_in c.args.image.now)) (g.B.Bank.cells c.put_cells.new.bank) =
     record {
       allowed = ok;
-      whole = c.in_ok-check.ensures.holds;
+      whole = c.in_ok-body.ensures.holds;
       room = omega arith;
       model = refl;
-      cells = c.put_cells.ensures.after ∙ (λ i. stored_cells g.V.LeafKind.taken (r i) (count i) ++ drop (count i) (g.B.Bank.cells c.args.bank.now));
+      cells = c.put_cells.ensures.after ∙ (λ i. stored_cells g.V.LeafKind.taken (at.0 i) (at.1 i) ++ drop (at.1 i) (g.B.Bank.cells c.args.bank.now));
     } in
     record {
       opened = subst (λ a. Opened g.V.LeafKind.lawful g.V.LeafKind.word g.V.LeafKind.taken g.V.LeafKind.number c.args.image.now (g.B.Bank.cells c.args.bank.now) a (g.B.Bank.cells c.put_cells.new.bank)) (sym made) whole;

@@ -1,6 +1,4 @@
 use Rattle.std.proofs.Common.{◌≡◌, ◌+◌, ◌*◌, get_or, ap, ◌∙◌, arith}
-use Rattle.std.specs.List.{flat_map}
-use Rattle.std.proofs.lemmas.List.{take_all}
 use Rattle.cells.specs.declared.Field.TheVariants.{Nil}
 use Rattle.images.specs.Layout.{four_bytes, hand_bytes}
 use Rattle.images.specs.Writing.{pasted}
@@ -14,6 +12,3 @@ loop-i-preserved c =
     c.write_part.ensures
     ∙ ap (pasted c.loop-i.bytes (4 + 4 * c.loop-i.i)) four
     ∙ parts_more hand_bytes 4 hand_length c.args.bytes.now c.loop-i.bytes c.args.hands.now 4 c.loop-i.i Nil (omega arith) (omega arith) c.loop-i.invariant
-
-pub returns : goal.returns
-returns c = c.loop-i.invariant ∙ ap (λ hs. pasted c.args.bytes.now 4 (flat_map hand_bytes hs)) (take_all c.loop-i.i c.args.hands.now (omega arith))

@@ -1,4 +1,4 @@
-use Rattle.std.proofs.Common.{sym, ap, ◌∙◌, below_more}
+use Rattle.std.proofs.Common.{ap, ◌∙◌}
 use Rattle.cells.specs.Banks.{found_lawful}
 use Rattle.reports.proofs.Steps.{found_lawful_lem}
 use Rattle.reports.proofs.apart.cell_apart.Goals as goal
@@ -9,6 +9,3 @@ same_found-requires g c =
       left = ap (found_lawful g.V.LeafKind.lawful) c.cell_of.ensures.found ∙ found_lawful_lem g.met.V.LeafKind.laws c.args.a.now c.loop-at.at;
       right = ap (found_lawful g.V.LeafKind.lawful) c.cell_of-in-loop-at.ensures.found ∙ found_lawful_lem g.met.V.LeafKind.laws c.args.b.now c.loop-at.at;
     }
-
-pub loop-at-preserved : goal.loop-at-preserved
-loop-at-preserved g c = below_more _ _ c.loop-at.invariant (sym c.cell_of.ensures.found ∙ c.same_found.ensures.0 c.if-not-same_found.false ∙ c.cell_of-in-loop-at.ensures.found)

@@ -1,9 +1,0 @@
-use Rattle.std.proofs.Common.{◌≡◌, ◌+◌, ◌*◌, None}
-use Rattle.images.specs.First.{first, cell_tags}
-use Rattle.images.specs.Surveys.{TaggedTo}
-use Rattle.images.proofs.surveys.check_cells.Given as goal
-
-abbrev pub invariant-loop-j : goal.invariant-loop-j
-invariant-loop-j g l =
-    TaggedTo g.V.LeafKind.taken l.rest l.count (16 + 2 * l.j) None
-    × (first (cell_tags g.V.LeafKind.taken l.rest l.count) l.j ≡ None)
