@@ -2,8 +2,7 @@
 use Rattle.std.specs.Prelude.{ℕ, List, ◌++◌, codes, decimal}
 use Rattle.cells.specs.declared.Tag.{Tag}
 use Rattle.cells.specs.declared.Tag.TheVariants.{Unique, Sticky}
-use Rattle.cells.specs.declared.Side.{Side}
-use Rattle.cells.specs.declared.Side.TheVariants.{Left, Right}
+use Rattle.cells.specs.Shown.{side_text}
 use Rattle.images.specs.declared.faults.Place.{Place}
 use Rattle.images.specs.declared.faults.Place.TheVariants.{Hand, Cell}
 use Rattle.images.specs.declared.faults.Flaw.{Flaw}
@@ -11,13 +10,9 @@ use Rattle.images.specs.declared.faults.Flaw.TheVariants.{BadHand, BadCell, Outs
 use Rattle.images.specs.declared.faults.Fault.{Fault}
 use Rattle.images.specs.declared.faults.Fault.TheVariants.{TooShort, WrongKind, TooManyCells, WrongLength, Flawed}
 
-abbrev pub side_words : Side → List ℕ
-side_words Left = codes "left of cell "
-side_words Right = codes "right of cell "
-
 abbrev pub place_words : Place → List ℕ
 place_words (Hand i) = codes "hand " ++ decimal i
-place_words (Cell side j) = side_words side ++ decimal j
+place_words (Cell side j) = side_text side ++ (codes " of cell " ++ decimal j)
 
 abbrev pub tag_words : Tag → List ℕ
 tag_words Unique = codes " is tagged UNIQUE, but another reference leads to the same cell"

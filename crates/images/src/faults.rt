@@ -58,10 +58,7 @@ impl fmt::Display for Place {
     fn fmt<W: fmt::Write>(&self, f: &mut fmt::Formatter<W>) -> fmt::Result {
         match *self {
             Place::Hand(i) => write!(f, "hand {i}"),
-            Place::Cell(side, j) => match side {
-                Side::Left => write!(f, "left of cell {j}"),
-                Side::Right => write!(f, "right of cell {j}"),
-            },
+            Place::Cell(side, j) => write!(f, "{side} of cell {j}"),
         }
     }
 }
