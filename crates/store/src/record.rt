@@ -116,6 +116,7 @@ impl Record {
     }
 
     // What a hand holds. There is nothing in a hand past the last.
+    #[tactic(auto, using(crate::proofs::Keeping::held_at))]
     pub fn hand(&self, h: u16) -> Field
         ensures value { result ≡ hand_of (view self.now) h }
         ensures inside { past (view self.now).size result ≡ false }

@@ -6,4 +6,4 @@ pub invariant_of-self : goal.invariant_of-self
 invariant_of-self c = search (rules, keeps_popped)
 
 pub returns-clause-inside : goal.returns-clause-inside
-returns-clause-inside c = top_inside _ _ _ c.pop.ensures.answer c.args.self.now.below
+returns-clause-inside c = let inside = top_inside _ _ _ c.pop.ensures.answer c.args.self.now.below in search rules
