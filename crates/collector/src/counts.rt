@@ -6,7 +6,7 @@ ghost use Rattle.collector.specs.Collections.{steps_of, copied_of, marks_of};
 use store::Mode;
 use store::record::Record;
 
-#[derive(Clone, Copy)]
+#[derive(Clone, Copy, PartialEq, Eq, Debug)]
 pub struct Counts {
     pub steps: u32,
     pub copied: u16,

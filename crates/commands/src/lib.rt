@@ -23,7 +23,7 @@ const USAGE: &str = "usage: cellstore COMMAND KIND FILE..    (KIND is point or i
   show KIND IMAGE [--dot]  the hands and cells of an image; with --dot as a drawing for Graphviz";
 
 // Why the program ends with status 1. What there is to say was said before.
-#[derive(Debug, Drop)]
+#[derive(Clone, Copy, PartialEq, Eq, Debug)]
 pub enum Ended {
     Wrong,
     Different,

@@ -43,7 +43,7 @@ pub fn cell_line(heap: Global, at: u16, text: &str) -> Result<String, AllocError
 }
 
 // How many cells there are of each kind.
-#[derive(Clone, Copy, Debug)]
+#[derive(Clone, Copy, PartialEq, Eq, Debug)]
 pub struct Tally {
     pub blank: u64,
     pub pair: u64,

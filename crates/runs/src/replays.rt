@@ -32,7 +32,7 @@ fn play<V: LeafKind, A: Bank<V>, B: Bank<V>>(
 }
 
 // Why a script was not replayed: there is no store of that size, or no memory for the answers. Nothing was done then.
-#[derive(Drop)]
+#[derive(PartialEq, Eq, Debug, Drop)]
 pub enum Unplayed {
     Refused(Cause),
     Memory,

@@ -3,7 +3,7 @@ use cells::Side;
 use store::Sight;
 
 // A call on a store that does not collect. h and g are hands; a call with a side is about the pair that g refers to.
-#[derive(Clone, Copy)]
+#[derive(Clone, Copy, PartialEq, Eq, Debug)]
 pub enum Edit<V> {
     Pair { h: u16 },
     Leaf { h: u16, value: V },
@@ -16,7 +16,7 @@ pub enum Edit<V> {
 }
 
 // Any call of a script. The spare of each Begin is the bank that is not in use.
-#[derive(Clone, Copy)]
+#[derive(Clone, Copy, PartialEq, Eq, Debug)]
 pub enum Call<V> {
     Edit(Edit<V>),
     Begin,
@@ -27,7 +27,7 @@ pub enum Call<V> {
 
 // What an accepted call is answered: that it is done, what it sees, that a collection is begun or abandoned, how many steps were
 // made, or the cells kept and the marks.
-#[derive(Clone, Copy)]
+#[derive(Clone, Copy, PartialEq, Eq, Debug)]
 pub enum Answer<V> {
     Done,
     Seen(Sight<V>),

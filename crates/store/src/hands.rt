@@ -4,7 +4,7 @@ ghost use Rattle.cells.specs.declared.Field.TheVariants.{Nil};
 
 use cells::Field;
 
-#[derive(Clone, Copy)]
+#[derive(Clone, Copy, PartialEq, Eq, Debug)]
 pub struct Hands {
     fields: [Field; 16],
 }

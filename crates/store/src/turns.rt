@@ -2,7 +2,7 @@
 use cells::Field;
 
 // A step says what it counts: a cell copied, a marking. A placed field goes into a hand while the hands are visited.
-#[derive(Clone, Copy)]
+#[derive(Clone, Copy, PartialEq, Eq, Debug)]
 pub enum Happening {
     Edited,
     Begun,

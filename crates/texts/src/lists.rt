@@ -11,7 +11,7 @@ use cells::leaves::{LeafKind, compare};
 use std::alloc::{AllocError, AllocFailed, Global};
 
 // A value and the number of the line that it was typed in; the value is tidied, or refused.
-#[derive(Clone, Copy, Debug)]
+#[derive(Clone, Copy, PartialEq, Eq, Debug)]
 pub struct Entry<V> {
     pub line: usize,
     pub value: Result<V, Cause>,
@@ -73,7 +73,7 @@ pub fn entry_line<V: TypedLeaf>(heap: Global, entry: Entry<V>) -> Result<String,
 }
 
 // A list, and the name by which people know it.
-#[derive(Clone, Copy)]
+#[derive(Clone, Copy, Debug)]
 pub struct NamedList<'a, V> {
     pub name: &'a str,
     pub entries: &'a [Entry<V>],
@@ -121,7 +121,7 @@ pub fn verdict_line<V: LeafKind>(
     different_line(heap, here.as_str(), there.as_str())
 }
 
-#[derive(Debug, Drop)]
+#[derive(PartialEq, Eq, Debug, Drop)]
 pub enum ListFault {
     // There was no memory.
     Memory,

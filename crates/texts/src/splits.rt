@@ -6,7 +6,7 @@ ghost use Rattle.texts.specs.Splits.{separates, keeps, pieces_from, begins, pass
 use std::alloc::{AllocError, Global};
 
 // What ends a piece: a line's end, or the white space after a word.
-#[derive(Clone, Copy)]
+#[derive(Clone, Copy, PartialEq, Eq, Debug)]
 pub enum Separator {
     Newline,
     Space,

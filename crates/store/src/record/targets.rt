@@ -12,7 +12,7 @@ use cells::leaves::LeafKind;
 use cells::{Cell, Field, Side};
 
 // A pair and its address.
-#[derive(Clone, Copy)]
+#[derive(Clone, Copy, PartialEq, Eq, Debug)]
 pub struct Target {
     pub address: u16,
     left: Field,
