@@ -14,7 +14,7 @@ fn part<const N: usize>(bytes: &[u8], at: usize) -> [u8; N]
     requires { at + N ≤ length bytes.now }
     ensures { result ≡ take N (drop at bytes.now) }
 {
-    *bytes[at..].first_chunk().unwrap()
+    *bytes[at..at + N].first_chunk().unwrap()
 }
 
 // The hand that stands at an index in what follows the heading.
