@@ -12,7 +12,7 @@ use cells::banks::Bank;
 use cells::causes::Cause;
 use cells::leaves::LeafKind;
 use std::array;
-use store::record::Record;
+use store::record::{Record, checked_size};
 
 // The hand with an index, nil where its bytes are no field.
 fn hand_in(body: &Body, i: u8) -> Field
@@ -46,17 +46,14 @@ pub fn open<V: LeafKind, B: Bank<V>>(bank: &mut B, image: &[u8]) -> Result<Recor
     ensures rebuilt { Rebuilt V.lawful V.word V.taken V.number image.now (B.cells bank.old) (viewed result) (B.cells bank.new) }
     ensures rooted { B.root bank.new ≡ B.root bank.old }
 {
-    let size = bank.size();
-    if size == 0 || size > 32768 {
-        return Err(Cause::SizeOutOfRange);
-    }
+    let size = checked_size(bank.size())?;
     let body = read::<V>(image)?;
-    if body.count as usize > size {
+    if body.count > size {
         return Err(Cause::NoRoom);
     }
     let hands = hands_in(&body);
     put_cells::<V, B>(bank, &body);
-    Record::restored(size, body.count, &hands)
+    Record::restored(size as usize, body.count, &hands)
 }
 
 // What Open leaves of an image is written as that image.

@@ -1,5 +1,6 @@
 // What a store keeps beside its bank. Whatever a record holds lies inside the bank.
-ghost use Rattle.std.specs.Prelude.{◌≡◌, ◌<◌, ◌≤◌, true, false, length, IfSome, Ok, Err};
+ghost use Rattle.std.specs.Prelude.{◌≡◌, ◌<◌, ◌≤◌, true, false, ◌⊎◌, length, IfSome, IfOk, IfErr, Ok, Err};
+ghost use Rattle.cells.specs.declared.causes.Cause.TheVariants.{SizeOutOfRange};
 ghost use Rattle.store.specs.Fields.{past};
 ghost use Rattle.store.specs.Bounds.{hands_below, listed_below, listed_at, counts_within, top_of};
 ghost use Rattle.store.specs.Calls.{unless, size_cause};
@@ -31,8 +32,10 @@ pub struct Record {
 }
 
 // The size of a bank over which a store can be made, or its refusal.
-fn checked_size(size: usize) -> Result<u16, Cause>
-    ensures { result ≡ unless (size_cause size) size Err Ok }
+pub fn checked_size(size: usize) -> Result<u16, Cause>
+    ensures answer { result ≡ unless (size_cause size) size Err Ok }
+    ensures fits { IfOk result (λ n. (n ≡ size) × (1 ≤ size) × (size ≤ 32768)) }
+    ensures refused { IfErr result (λ cause. (cause ≡ SizeOutOfRange) × ((size ≡ 0) ⊎ (32768 < size))) }
 {
     match size {
         1..=32768 => Ok(size as u16),

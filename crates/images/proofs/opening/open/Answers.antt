@@ -9,16 +9,21 @@ use Rattle.images.specs.Opening.{Allowed, Refused, size_out, no_image, no_room, 
 use Rattle.images.proofs.Reopened.{cells_storable, record_made, accepts, refuses}
 use Rattle.images.proofs.opening.open.Goals as goal
 
-pub returns-then-size-eq0-clause-opened : goal.returns-then-size-eq0-clause-opened
-returns-then-size-eq0-clause-opened g c = (size_out (λ ok. ⊎_elim (λ e. omega (arith, ok.0, ok.1)) (λ e. omega (arith, ok.0, ok.1)) c.then-size-eq0.either), refl)
+pub returns-in_err-size-clause-opened : goal.returns-in_err-size-clause-opened
+returns-in_err-size-clause-opened g c =
+    let p = err_from_is_err_and c.from_residual.result c.from_residual.ensures.1 in
+    let why = c.in_err-size.ensures.refused in
+    rw (p.1, p.2, why.0) (size_out (λ ok. ⊎_elim (λ e. omega (arith, ok.0, ok.1)) (λ e. omega (arith, ok.0, ok.1)) why.1), refl)
 
 pub returns-in_err-body-clause-opened : goal.returns-in_err-body-clause-opened
 returns-in_err-body-clause-opened g c =
-    let p = err_from_is_err_and c.from_residual.result c.from_residual.ensures.1 in
+    let sized = c.in_ok-size.ensures.fits in
+    let p = err_from_is_err_and c.from_residual-in_err-body.result c.from_residual-in_err-body.ensures.1 in
     rw (p.1, p.2, c.in_err-body.ensures.checked.0) (no_image (omega arith, omega arith) c.in_err-body.ensures.checked.1, refl)
 
 pub returns-then-body-size : goal.returns-then-body-size
 returns-then-body-size g c =
+    let sized = c.in_ok-size.ensures.fits in
     let at = c.in_ok-body.ensures.rest in
     let why : Refused g.V.LeafKind.lawful g.V.LeafKind.word g.V.LeafKind.taken g.V.LeafKind.number (length (g.B.Bank.cells c.args.bank.now)) c.args.image.now NoRoom = no_room (omega arith, omega arith) c.in_ok-body.ensures.holds (omega arith) in
     record { opened = (why, refl); rebuilt = refuses g.met.V.LeafKind.laws g.V.LeafKind.number c.args.image.now (g.B.Bank.cells c.args.bank.now) NoRoom why; rooted = refl }
@@ -30,11 +35,12 @@ put_cells-requires-clause-storables g c =
 
 pub returns : goal.returns
 returns g c =
+    let sized = c.in_ok-size.ensures.fits in
     let at = c.in_ok-body.ensures.rest in
     let ok : Allowed (length (g.B.Bank.cells c.args.bank.now)) = (omega arith, omega arith) in
     let hands : c.hands_in-hands.result ≡ hands_in c.args.image.now = c.hands_in-hands.ensures ∙ ap stored_hands at.0 in
     let made : viewed c.restored.result ≡ Ok (settled_model (length (g.B.Bank.cells c.args.bank.now)) (count_in c.args.image.now) (hands_in c.args.image.now)) =
-    c.restored.ensures ∙ (λ i. restored_model (c.size-size.ensures i) (at.1 i) (hands i)) ∙ record_made g.met.V.LeafKind.laws g.V.LeafKind.number c.args.image.now c.in_ok-body.ensures.holds (length (g.B.Bank.cells c.args.bank.now)) ok (omega arith) in
+    c.restored.ensures ∙ (λ i. restored_model ((sized.0 ∙ c.size.ensures) i) (at.1 i) (hands i)) ∙ record_made g.met.V.LeafKind.laws g.V.LeafKind.number c.args.image.now c.in_ok-body.ensures.holds (length (g.B.Bank.cells c.args.bank.now)) ok (omega arith) in
     let whole : Restored g.V.LeafKind.lawful g.V.LeafKind.word g.V.LeafKind.taken g.V.LeafKind.number c.args.image.now (g.B.Bank.cells c.args.bank.now) (settled_model (length (g.B.Bank.cells c.args.bank.now)) (count_in c.args.image.now) (hands_in c.args.image.now)) (g.B.Bank.cells c.put_cells.new.bank) =
     record {
       allowed = ok;
