@@ -7,8 +7,5 @@ use kinds::points::Point;
 // The number of cells of an image of points, or 65535 where the bytes are none.
 #[unsafe(no_mangle)]
 pub extern "C" fn rattle_check(image: &[u8]) -> u64 {
-    match check::<Point>(image) {
-        Ok(cells) => cells as u64,
-        Err(_) => 65_535,
-    }
+    check::<Point>(image).map_or(65_535, |cells| cells as u64)
 }

@@ -16,7 +16,7 @@ fn collections<V: LeafKind, A: Bank<V>, B: Bank<V>>(rig: &mut Rig<A, B>, times: 
     ensures { Fits (banks_of A.cells B.cells rig.old) → Fits (banks_of A.cells B.cells rig.new) }
 {
     let mut sum = 0u64;
-    for _time in 0..times {
+    for _ in 0..times {
         let _ = rig.call::<V>(Call::Begin);
         if let Ok(Answer::Kept { kept, marks }) = rig.call::<V>(Call::Finish) {
             sum = sum.wrapping_add(kept as u64).wrapping_add(marks as u64);
@@ -50,9 +50,9 @@ fn edits<A: Bank<Point>, B: Bank<Point>>(rig: &mut Rig<A, B>, times: u32) -> u64
 {
     let mut accepted = 0u64;
     let mut n = 1u32;
-    for _time in 0..times {
+    for _ in 0..times {
         n = n.wrapping_mul(1_664_525).wrapping_add(1_013_904_223);
-        if let Ok(_) = rig.call::<Point>(call_of(n)) {
+        if rig.call::<Point>(call_of(n)).is_ok() {
             accepted = accepted.wrapping_add(1);
         }
     }
@@ -66,27 +66,23 @@ fn collected<A: Bank<Point> + Drop, B: Bank<Point> + Drop>(
     second: B,
     times: u32,
 ) -> u64 {
-    match Rig::new::<Point>(first, second) {
-        Ok(mut rig) => {
-            let _ = rig.open::<Point>(image);
-            let sum = collections::<Point, A, B>(&mut rig, times);
-            rig.end::<Point>();
-            sum
-        }
-        Err(_) => 0,
-    }
+    let Ok(mut rig) = Rig::new::<Point>(first, second) else {
+        return 0;
+    };
+    let _ = rig.open::<Point>(image);
+    let sum = collections::<Point, A, B>(&mut rig, times);
+    rig.end::<Point>();
+    sum
 }
 
 // Makes that many calls on a new store.
 fn edited<A: Bank<Point> + Drop, B: Bank<Point> + Drop>(first: A, second: B, times: u32) -> u64 {
-    match Rig::new::<Point>(first, second) {
-        Ok(mut rig) => {
-            let accepted = edits(&mut rig, times);
-            rig.end::<Point>();
-            accepted
-        }
-        Err(_) => 0,
-    }
+    let Ok(mut rig) = Rig::new::<Point>(first, second) else {
+        return 0;
+    };
+    let accepted = edits(&mut rig, times);
+    rig.end::<Point>();
+    accepted
 }
 
 #[unsafe(no_mangle)]

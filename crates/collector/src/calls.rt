@@ -18,7 +18,7 @@ use store::record::Record;
 use store::turns::Happening;
 
 // Refuses banks of another size.
-fn both_sized(store: &Record, old: usize, new: usize) -> Result<(), Cause>
+pub fn both_sized(store: &Record, old: usize, new: usize) -> Result<(), Cause>
     ensures { result ≡ both_sized (view store.now) old new }
 {
     let size = store.size() as usize;

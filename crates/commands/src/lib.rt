@@ -1,6 +1,9 @@
 // The commands of the program.
 #![tactic(auto)]
 
+ghost use Rattle.std.specs.Prelude.{◌≡◌};
+ghost use Rattle.commands.specs.declared.Ended.TheVariants.{Wrong};
+
 mod compare;
 mod drawing;
 mod dump;
@@ -30,12 +33,16 @@ pub enum Ended {
 }
 
 impl From<AllocError> for Ended {
+    ghost from_gives = { λ _ ended. ended ≡ Wrong };
+
     fn from(_e: AllocError) -> Ended {
         Ended::Wrong
     }
 }
 
 impl From<Cause> for Ended {
+    ghost from_gives = { λ _ ended. ended ≡ Wrong };
+
     fn from(_cause: Cause) -> Ended {
         Ended::Wrong
     }

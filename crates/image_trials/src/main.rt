@@ -17,7 +17,7 @@ fn bytes_of(heap: Global, text: &str) -> Result<Vec<u8>> {
     let mut bytes = Vec::new(heap);
     for pair in text.as_bytes().chunks_exact(2) {
         let [high, low] = pair else {
-            bail!("an odd digit");
+            bail!("no pair of digits");
         };
         let high = digit_value(*high).unwrap_or(0);
         let low = digit_value(*low).unwrap_or(0);
@@ -44,7 +44,7 @@ fn answer<V: LeafKind>(heap: Global, image: &[u8]) -> Result<(String, String)> {
     match check::<V>(image) {
         Ok(count) => {
             let whole = reads::<V>(image, count);
-            let equal = matches!(same::<V>(image, image), Ok(true));
+            let equal = same::<V>(image, image) == Ok(true);
             let how = if whole && equal { "read" } else { "not read" };
             Ok((
                 format!(in heap; "cells-{count}")?,

@@ -1,6 +1,6 @@
 -- Where an image has its numbers, hands and cells. Assumes nothing.
 -- Two bytes for the kind's number, two for the number of cells, four for each of sixteen hands, nine for each cell.
-use Rattle.std.specs.Prelude.{ℕ, ◌+◌, ◌*◌, ◌/◌, ◌%◌, ◌^◌, Bool, List, [], ◌∷◌, ◌++◌, map, length, take, drop, Some, None, Option, slice_index}
+use Rattle.std.specs.Prelude.{◌≡◌, ℕ, ◌+◌, ◌*◌, ◌/◌, ◌%◌, ◌^◌, Bool, List, [], ◌∷◌, ◌++◌, map, length, take, drop, Some, None, Option, slice_index}
 use Rattle.std.specs.List.{range_with_len, flat_map}
 use Rattle.cells.specs.declared.Field.{Field}
 use Rattle.cells.specs.declared.Field.TheVariants.{Nil}
@@ -60,6 +60,10 @@ kind_in image = two_at image 0
 
 abbrev pub count_in : List ℕ → ℕ
 count_in image = two_at image 2
+
+-- the bytes after an image's heading, and how many cells the heading says
+abbrev pub IsBodyOf : List ℕ → List ℕ → ℕ → Type 0
+IsBodyOf image bytes count = (bytes ≡ drop 4 image) × (count ≡ count_in image)
 
 abbrev pub hands_in : List ℕ → List Field
 hands_in image = stored_hands (drop 4 image)

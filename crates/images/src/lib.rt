@@ -5,7 +5,7 @@ ghost use Rattle.std.specs.Prelude.{◌≡◌, ◌≤◌, length, drop, IfOk, On
 ghost use Rattle.std.specs.Result.{result_err, result_map_both};
 ghost use Rattle.graph.specs.Graphs.{Alike};
 ghost use Rattle.images.specs.Images.{HeldImage, Checked, OneReading, hand_of, cell_of, graph_in, Compared};
-ghost use Rattle.images.specs.Layout.{count_in};
+ghost use Rattle.images.specs.Layout.{IsBodyOf};
 ghost use Rattle.images.specs.Faults.{Examined, Diagnosed};
 ghost use Rattle.images.specs.First.{first_fault};
 
@@ -26,7 +26,7 @@ use cells::{Cell, Field};
 fn examine<V: LeafKind>(image: &[u8]) -> Result<Body<'_>, Fault>
     ensures rules { Examined V.lawful V.word V.taken V.number image.now (result_map_both (λ body. body.count) (λ fault. fault) result) }
     ensures order { result_err result ≡ first_fault V.taken V.number image.now }
-    ensures rest { IfOk result (λ body. (body.bytes.now ≡ drop 4 image.now) × (body.count ≡ count_in image.now)) }
+    ensures rest { IfOk result (λ body. IsBodyOf image.now body.bytes.now body.count) }
 {
     let body = Body::parse(image, V::kind_number())?;
     check_body::<V>(&body)?;
@@ -45,7 +45,7 @@ pub fn diagnose<V: LeafKind>(image: &[u8]) -> Option<Fault>
 fn read<V: LeafKind>(image: &[u8]) -> Result<Body<'_>, Cause>
     ensures checked { Checked V.lawful V.word V.number image.now (result_map_both (λ body. body.count) (λ cause. cause) result) }
     ensures holds { OnOk result (HeldImage V.lawful V.word V.taken V.number image.now) }
-    ensures rest { IfOk result (λ body. (body.bytes.now ≡ drop 4 image.now) × (body.count ≡ count_in image.now)) }
+    ensures rest { IfOk result (λ body. IsBodyOf image.now body.bytes.now body.count) }
 {
     examine::<V>(image).map_err(|_| Cause::NotAnImage)
 }

@@ -1,7 +1,7 @@
 // The hands and cells of an image: sixteen hands of four bytes and so many cells of nine, which follow four bytes of heading.
 ghost use Rattle.std.specs.Prelude.{◌≡◌, ◌+◌, ◌*◌, ◌<◌, ◌≤◌, length, take, drop, IfOk};
 ghost use Rattle.std.specs.Result.{result_err};
-ghost use Rattle.images.specs.Layout.{count_in, stored_hand, stored_cell};
+ghost use Rattle.images.specs.Layout.{IsBodyOf, stored_hand, stored_cell};
 ghost use Rattle.images.specs.Faults.{misheaded, headed};
 
 use crate::faults::Fault;
@@ -60,7 +60,7 @@ pub struct Body<'a> {
 impl<'a> Body<'a> {
     pub fn parse(image: &'a [u8], wanted: u16) -> Result<Body<'a>, Fault>
         ensures fault { result_err result ≡ headed wanted image.now }
-        ensures body { IfOk result (λ body. (body.bytes.now ≡ drop 4 image.now) × (body.count ≡ count_in image.now)) }
+        ensures body { IfOk result (λ body. IsBodyOf image.now body.bytes.now body.count) }
     {
         let [k0, k1, r0, r1, bytes @ ..] = image else {
             return Err(Fault::TooShort);

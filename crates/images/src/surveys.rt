@@ -50,7 +50,7 @@ impl Survey {
         Ok(())
     }
 
-    // Whether a cell is met, when its own fields are to be read.
+    // Refuses a cell that is not met, when its own fields are to be read.
     fn check_met(&self, j: u16) -> Result<(), Flaw>
         ensures { result_err result ≡ too_early j self.now.met }
     {
@@ -61,7 +61,7 @@ impl Survey {
         }
     }
 
-    // Whether the tag of the field at a place is right, once all places are read.
+    // Refuses a tag that is wrong, once all places are read.
     fn check_tag(&self, place: Place, field: Field) -> Result<(), Flaw>
         requires { (x : Referred) → field ≡ Refers x → x.address < 32768 }
         ensures { result_err result ≡ mistag place field self.now.references }

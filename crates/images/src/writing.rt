@@ -70,7 +70,7 @@ fn write_cells<V: LeafKind, B: Bank<V>>(bank: &B, count: u16, bytes: &mut [u8])
     }
 }
 
-// Whether the image of the store can be written to so many bytes.
+// Refuses a store whose image cannot be written to so many bytes.
 #[tactic(auto, using(std::proofs::lemmas::Bool::Decides::nat_tests), unfolding(crate::specs::Writing::write_cause))]
 fn check_writable<V: LeafKind, B: Bank<V>>(
     record: &Record,
@@ -89,7 +89,7 @@ fn check_writable<V: LeafKind, B: Bank<V>>(
     if !all_nodes::<V, B>(bank, record.mark()) {
         return Err(Cause::Spoiled);
     }
-    if let Mode::Working = mode {
+    if mode == Mode::Working {
         return Err(Cause::NotSettled);
     }
     if space < image_length(record.mark()) {

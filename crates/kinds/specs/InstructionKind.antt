@@ -1,5 +1,6 @@
 -- The leaf kind of instructions: an operation, a channel and a signed argument. Assumes nothing.
-use Rattle.std.specs.Prelude.{ℕ, ◌+◌, ◌*◌, ◌/◌, ◌%◌, ◌^◌, Bool, false, cond, ◌&&◌, ℤ, pos, negsuc, Some, None, Option, ◌==◌, nat_lt}
+use Rattle.std.specs.Prelude.{List, ◌++◌, codes, decimal, ℕ, ◌+◌, ◌*◌, ◌/◌, ◌%◌, ◌^◌, Bool, false, cond, ◌&&◌, ℤ, pos, negsuc, Some, None, Option, ◌==◌, nat_lt}
+use Rattle.std.specs.Fmt.{signed_decimal}
 use Rattle.std.specs.Int.Signed.{mag}
 use Rattle.std.specs.Int.{w32}
 use Rattle.std.proofs.Common.{of_z, to_z}
@@ -32,3 +33,7 @@ same_int (negsuc m) (negsuc n) = m == n
 -- all three agree
 abbrev pub alike_instruction : Instruction → Instruction → Bool
 alike_instruction i j = i.operation == j.operation && (i.channel == j.channel && same_int i.argument j.argument)
+
+-- how an instruction is shown: its three numbers
+abbrev pub instruction_text : Instruction → List ℕ
+instruction_text i = decimal i.operation ++ (codes " " ++ (decimal i.channel ++ (codes " " ++ signed_decimal i.argument)))

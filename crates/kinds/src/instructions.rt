@@ -1,7 +1,6 @@
 // An instruction of a test sequence.
-ghost use Rattle.std.specs.Prelude.{◌≡◌, Bool, ◌++◌, Some, codes, decimal};
-ghost use Rattle.std.specs.Fmt.{signed_decimal};
-ghost use Rattle.kinds.specs.InstructionKind.{lawful_instruction, tidied_instruction, word_instruction, taken_instruction, alike_instruction};
+ghost use Rattle.std.specs.Prelude.{◌≡◌, Some};
+ghost use Rattle.kinds.specs.InstructionKind.{lawful_instruction, tidied_instruction, word_instruction, taken_instruction, alike_instruction, instruction_text};
 ghost use Rattle.kinds.specs.InstructionLaws.{instruction_laws};
 
 use cells::causes::Cause;
@@ -74,12 +73,14 @@ impl LeafKind for Instruction {
 }
 
 impl fmt::Display for Instruction {
-    ghost output = { λ i. Some (decimal i.operation ++ (codes " " ++ (decimal i.channel ++ (codes " " ++ signed_decimal i.argument)))) };
+    ghost output = { λ i. Some (instruction_text i) };
 
     fn fmt<W: fmt::Write>(&self, f: &mut fmt::Formatter<W>) -> fmt::Result {
-        let operation = self.operation;
-        let channel = self.channel;
-        let argument = self.argument;
+        let Instruction {
+            operation,
+            channel,
+            argument,
+        } = *self;
         write!(f, "{operation} {channel} {argument}")
     }
 }

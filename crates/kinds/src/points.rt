@@ -54,8 +54,7 @@ impl LeafKind for Point {
 
 impl fmt::Display for Point {
     fn fmt<W: fmt::Write>(&self, f: &mut fmt::Formatter<W>) -> fmt::Result {
-        let load = self.load;
-        let reading = self.reading;
+        let Point { load, reading } = *self;
         write!(f, "{load} {reading}")
     }
 }

@@ -147,7 +147,7 @@ impl Record {
         ensures { view self.new ≡ field_let_go (view self.old) field }
     {
         if let Field::To(r) = field
-            && let Tag::Unique = r.tag
+            && r.tag == Tag::Unique
             && r.address < self.mark
         {
             self.free.push(r.address);

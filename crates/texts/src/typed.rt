@@ -1,6 +1,6 @@
 // How a leaf value is typed, and how it is shown.
-ghost use Rattle.std.specs.Prelude.{◌≡◌, ℕ, List, ◌++◌, IfOk, string_bytes, codes, decimal, Option, Result as Answer};
-ghost use Rattle.std.specs.Fmt.{signed_decimal};
+ghost use Rattle.std.specs.Prelude.{◌≡◌, ℕ, List, IfOk, string_bytes, Option, Result as Answer};
+ghost use Rattle.kinds.specs.InstructionKind.{instruction_text};
 ghost use Rattle.cells.specs.declared.causes.Cause.{Cause as Refusal};
 ghost use Rattle.texts.specs.Typed.{word_bytes, ReadsNumber, ReadsPoint, PointWords, ReadsWhole, ReadsInstruction, InstructionWords, instruction_of};
 
@@ -100,7 +100,7 @@ fn read_instruction(
 impl TypedLeaf for Instruction {
     ghost reads = { InstructionWords };
 
-    ghost shows = { λ i bs. bs ≡ decimal i.operation ++ (codes " " ++ (decimal i.channel ++ (codes " " ++ signed_decimal i.argument))) };
+    ghost shows = { λ i bs. bs ≡ instruction_text i };
 
     fn wanted() -> &'static str {
         "three whole numbers, operation, channel and argument"

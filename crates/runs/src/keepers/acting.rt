@@ -15,11 +15,10 @@ use crate::scripts::{Answer, Edit};
 use cells::banks::Bank;
 use cells::causes::Cause;
 use cells::leaves::LeafKind;
-use collector::calls::{abandon, begin, finish, slice};
+use collector::calls::{abandon, begin, both_sized, finish, slice};
 use collector::tickets::Ticket;
 use images::opening::open;
 use images::writing::write;
-use std::mem::replace;
 use store::record::Record;
 
 // A ticket cannot be let fall, so that it is kept only where there is none.
@@ -27,7 +26,7 @@ fn keep(place: &mut Option<Ticket>, ticket: Ticket)
     requires { is_some place.old ≡ false }
     ensures { is_some place.new ≡ true }
 {
-    match replace(place, Some(ticket)) {
+    match place.replace(ticket) {
         None => {}
         Some(_) => unreachable(),
     }
@@ -71,12 +70,9 @@ impl Keeper {
 fn idle_cause(store: &Record, old: usize, new: usize) -> Cause
     ensures { result ≡ idle_cause (view store.now).size old new }
 {
-    let size = store.size() as usize;
-    if old != size || new != size {
-        Cause::OtherSize
-    } else {
-        Cause::NotCollecting
-    }
+    both_sized(store, old, new)
+        .err()
+        .unwrap_or(Cause::NotCollecting)
 }
 
 impl Keeper {
@@ -105,7 +101,7 @@ impl Keeper {
         ensures old_rooted { O.root old.new ≡ O.root old.old }
         ensures new_rooted { N.root new.new ≡ N.root new.old }
     {
-        let Some(ticket) = replace(&mut self.ticket, None) else {
+        let Some(ticket) = self.ticket.take() else {
             return Err(idle_cause(&self.store, old.size(), new.size()));
         };
         match finish(ticket, &mut self.store, old, new) {
@@ -120,7 +116,7 @@ impl Keeper {
     pub fn abandon<V: LeafKind, O: Bank<V>>(&mut self, old: &O) -> Result<Answer<V>, Cause>
         ensures { (fresh : List (Cell V)) → Acts abandon (banks_at (view self.old.store) (O.cells old.now) fresh) result (banks_at (view self.new.store) (O.cells old.now) fresh) }
     {
-        let Some(ticket) = replace(&mut self.ticket, None) else {
+        let Some(ticket) = self.ticket.take() else {
             return Err(idle_cause(&self.store, old.size(), old.size()));
         };
         match abandon(ticket, &mut self.store, old) {
