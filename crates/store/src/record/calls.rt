@@ -4,8 +4,8 @@ ghost use Rattle.store.specs.Calls.{pair, leaf, copy, load, store, swap, clear, 
 ghost use Rattle.store.specs.Called.{Called, told, seen};
 ghost use Rattle.store.specs.Record.{view};
 
+use crate::record::Record;
 use crate::record::placing::made_sticky;
-use crate::record::{Record, is_past};
 use crate::{Mode, Sight};
 use cells::banks::{Bank, cell_at};
 use cells::causes::Cause;
@@ -78,10 +78,7 @@ impl Record {
     {
         self.admit(bank.size(), h, g)?;
         let target = self.target(bank, g)?;
-        let field = target.side(side);
-        if is_past(self.mark, field) {
-            return Err(Cause::Spoiled);
-        }
+        let field = target.sound(side, self.mark)?;
         let field = made_sticky(field);
         target.put(bank, side, field);
         self.replace(h, field);
@@ -123,10 +120,7 @@ impl Record {
     {
         self.admit(bank.size(), h, g)?;
         let target = self.target(bank, g)?;
-        let field = target.side(side);
-        if is_past(self.mark, field) {
-            return Err(Cause::Spoiled);
-        }
+        let field = target.sound(side, self.mark)?;
         let held = self.hand(h);
         target.put(bank, side, held);
         self.change(h, field);

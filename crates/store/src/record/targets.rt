@@ -1,11 +1,13 @@
 // What the calls ask before they change anything: whether a bank and hands are admitted, and which pair a hand refers to.
-ghost use Rattle.std.specs.Prelude.{◌≡◌, IfOk, IfErr, slice_set};
+ghost use Rattle.std.specs.Prelude.{◌≡◌, if◌then◌else◌, Ok, Err, IfOk, IfErr, slice_set};
+ghost use Rattle.cells.specs.declared.causes.Cause.TheVariants.{Spoiled};
+ghost use Rattle.store.specs.Fields.{past};
 ghost use Rattle.store.specs.Model.{hand_of};
 ghost use Rattle.store.specs.Record.{view};
 ghost use Rattle.store.specs.Parts.{admitted, target_of, side_in, with_in, Aims, Misses};
 
 use crate::Mode;
-use crate::record::Record;
+use crate::record::{Record, is_past};
 use cells::banks::{Bank, cell_at};
 use cells::causes::Cause;
 use cells::leaves::LeafKind;
@@ -27,6 +29,17 @@ impl Target {
             Side::Left => self.left,
             Side::Right => self.right,
         }
+    }
+
+    // The field on a side; one past the mark is refused.
+    pub(crate) fn sound(self, side: Side, mark: u16) -> Result<Field, Cause>
+        ensures { result ≡ (if past mark (side_in side self) then Err Spoiled else Ok (side_in side self)) }
+    {
+        let field = self.side(side);
+        if is_past(mark, field) {
+            return Err(Cause::Spoiled);
+        }
+        Ok(field)
     }
 
     // The pair with one side set.
