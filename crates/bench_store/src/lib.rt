@@ -11,7 +11,7 @@ use kinds::points::Point;
 use runs::rigs::Rig;
 use runs::scripts::{Answer, Call, Edit};
 
-// Collects again and again, and adds up what is kept and marked.
+// Collects so many times, and adds up what is kept and marked.
 fn collections<V: LeafKind, A: Bank<V>, B: Bank<V>>(rig: &mut Rig<A, B>, times: u32) -> u64
     ensures { Fits (banks_of A.cells B.cells rig.old) → Fits (banks_of A.cells B.cells rig.new) }
 {

@@ -23,7 +23,7 @@ pub trait Bank<V: LeafKind> {
         ensures lawful { found_lawful V.lawful result ≡ true };
 
     // Writes a pair, a moved cell or a lawful leaf at an address below the size, and answers yes.
-    // Anything else gets no, and no cell is altered.
+    // Anything else gets no, and no cell is altered. A bool, as of a set's `insert`: a caller in the core has asked before.
     fn put(&mut self, at: u16, cell: &Cell<V>) -> bool
         ensures answer { result ≡ takes V.lawful (cells self.old) at cell.now }
         ensures after { cells self.new ≡ after_put V.lawful (cells self.old) at cell.now }

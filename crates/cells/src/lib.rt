@@ -20,7 +20,7 @@ pub struct Reference {
     pub address: u16,
 }
 
-// What a hand, or one side of a pair, holds.
+// What a hand, or one side of a pair, holds. An enum of its own and no `Option`: definitions and the law match on these names.
 #[derive(Clone, Copy, PartialEq, Eq, Debug)]
 pub enum Field {
     Nil,

@@ -14,7 +14,7 @@ use cells::causes::Cause;
 use cells::leaves::LeafKind;
 use store::record::Record;
 
-// Makes as many steps as are allowed and as are left, up to one that is spoiled.
+// Makes as many steps as are allowed and as are left, up to one that is spoiled. The loop counts steps, and indexes nothing.
 pub fn make_steps<V: LeafKind, O: Bank<V>, N: Bank<V>>(
     store: &mut Record,
     old: &mut O,

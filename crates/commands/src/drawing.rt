@@ -48,6 +48,7 @@ fn draw_cell<V: TypedLeaf>(
     Ok(())
 }
 
+// By number, which is printed.
 fn draw_hands(rt: &HostRuntime, image: &[u8]) -> Result<(), AllocError> {
     for i in 0..16u8 {
         let field = hand_of(image, i).unwrap_or(Field::Nil);

@@ -22,6 +22,7 @@ pub fn check<V: TypedLeaf>(rt: &HostRuntime, name: &str) -> Result<(), Ended> {
     Ok(())
 }
 
+// By number, which is printed.
 fn show_hands(rt: &HostRuntime, image: &[u8]) {
     for i in 0..16u8 {
         let field = hand_of(image, i).unwrap_or(Field::Nil);

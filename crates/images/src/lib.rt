@@ -33,7 +33,7 @@ fn examine<V: LeafKind>(image: &[u8]) -> Result<Body<'_>, Fault>
     Ok(body)
 }
 
-// What is wrong first with bytes that are no image of the kind, and nothing where they are one.
+// What is wrong first with bytes that are no image of the kind, and nothing where they are one: an answer, and no refusal.
 pub fn diagnose<V: LeafKind>(image: &[u8]) -> Option<Fault>
     ensures first { result ≡ first_fault V.taken V.number image.now }
     ensures rules { Diagnosed V.lawful V.word V.taken V.number image.now result }

@@ -16,7 +16,7 @@ use cells::leaves::LeafKind;
 use cells::{Cell, Field, Side, Tag};
 
 // What is known of the places read so far: how many addresses they met, and for each address how many of them refer to
-// it, counted up to 2, since a tag says no more than whether there is another.
+// it, counted up to 2, since a tag says no more than whether there is another. An array by address, since a check uses no heap.
 #[derive(Drop)]
 pub struct Survey {
     met: u16,

@@ -61,7 +61,7 @@ fn unpack_reference(w: u32) -> Option<Reference>
     })
 }
 
-// The word of a field; nil is zero.
+// The word of a field; nil is zero. Functions and no `From` and `TryFrom`: neither type is of this crate.
 pub fn pack_field(f: Field) -> u32
     ensures packed { result ≡ pack_field f }
     ensures fits { field_fits f ≡ true }

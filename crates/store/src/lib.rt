@@ -6,7 +6,7 @@ mod hands;
 pub mod record;
 pub mod turns;
 
-// What a store is doing. A collecting one holds the steps made, the cells copied and the marks.
+// What a store is doing. A collecting one holds the steps made, the cells copied and the marks, on which definitions match.
 #[derive(Clone, Copy, PartialEq, Eq, Debug)]
 pub enum Mode {
     Settled,

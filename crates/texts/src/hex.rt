@@ -27,7 +27,7 @@ pub fn digit_value(digit: u8) -> Option<u8>
     }
 }
 
-// Writes the lowest `digits` hexadecimal digits of `w` after what `out` has.
+// Writes the lowest `digits` hexadecimal digits of `w` after what `out` has. `{:X}` pads, but does not cut to so many.
 pub fn push_hex(out: &mut String, w: u64, digits: u8) -> Result<(), AllocError>
     ensures { OnOk result (string_bytes out.new ≡ string_bytes out.old ++ hex digits w) }
 {

@@ -1,4 +1,5 @@
-// Lists read with nothing left open: which bytes end a line and a word, and what each line comes to.
+// Lists read with nothing left open: which bytes end a line and a word, and what each line comes to. `lists::read_list`, by which
+// programs read, takes the white space of Unicode.
 ghost use Rattle.std.specs.Prelude.{MatchResult};
 ghost use Rattle.texts.specs.Splits.{words_of};
 ghost use Rattle.texts.specs.Lists.{Line, Entries, NoEntries};

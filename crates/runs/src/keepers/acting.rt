@@ -21,7 +21,7 @@ use images::opening::open;
 use images::writing::write;
 use store::record::Record;
 
-// A ticket cannot be let fall, so that it is kept only where there is none.
+// A ticket cannot be let fall, so that it is kept only where there is none; a refusal hands it back by value.
 fn keep(place: &mut Option<Ticket>, ticket: Ticket)
     requires { is_some place.old ≡ false }
     ensures { is_some place.new ≡ true }

@@ -1,4 +1,4 @@
-// The calls of a store. Each is handed the working bank; the first cause that applies refuses it, and then nothing changes.
+// The calls of a store; each is read beside its own definition. Each is handed the working bank; the first cause that applies refuses it, and then nothing changes.
 ghost use Rattle.std.specs.Prelude.{◌≡◌};
 ghost use Rattle.store.specs.Calls.{pair, leaf, copy, load, store, swap, clear, look};
 ghost use Rattle.store.specs.Called.{Called, told, seen};
