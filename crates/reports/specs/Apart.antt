@@ -24,18 +24,17 @@ abbrev pub FoundText : {V : Type 0} → (V → Bool) → (V → ℕ) → (V → 
 FoundText lawful word shows None bs = bs ≡ codes "past the last"
 FoundText lawful word shows (Some c) bs = CellText lawful word shows c bs
 
--- the line of a difference at a hand, and at a cell, where this stands there in the one and that in the other
-abbrev pub in_both : List ℕ → List ℕ → List ℕ
-in_both x y = codes " is " ++ (x ++ (codes " in the first and " ++ (y ++ codes " in the second")))
+-- where a difference is
+abbrev pub difference_words : Difference → List ℕ
+difference_words (Hand i) = codes "hand " ++ decimal i
+difference_words (At j) = codes "cell " ++ decimal j
 
-abbrev pub hand_line : ℕ → List ℕ → List ℕ → List ℕ
-hand_line i x y = codes "different: hand " ++ (decimal i ++ in_both x y)
-
-abbrev pub cell_line : ℕ → List ℕ → List ℕ → List ℕ
-cell_line j x y = codes "different: cell " ++ (decimal j ++ in_both x y)
+-- the line of a difference, where this stands there in the one and that in the other
+abbrev pub apart_line : Difference → List ℕ → List ℕ → List ℕ
+apart_line d x y = codes "different: " ++ (difference_words d ++ (codes " is " ++ (x ++ (codes " in the first and " ++ (y ++ codes " in the second")))))
 
 -- the line of a difference; how a leaf's value is shown is its kind's
 abbrev pub DifferenceLine : {V : Type 0} → (V → Bool) → (V → ℕ) → (V → List ℕ → Type 0) → (ℕ → Option V) → List ℕ → List ℕ → Difference → List ℕ → Type 0
-DifferenceLine lawful word shows taken a b (Hand i) bs = bs ≡ hand_line i (field_text (or_nil (hand_of a i))) (field_text (or_nil (hand_of b i)))
+DifferenceLine lawful word shows taken a b (Hand i) bs = bs ≡ apart_line (Hand i) (field_text (or_nil (hand_of a i))) (field_text (or_nil (hand_of b i)))
 DifferenceLine lawful word shows taken a b (At j) bs =
-    (x : List ℕ) × (y : List ℕ) × FoundText lawful word shows (cell_of taken a j) x × FoundText lawful word shows (cell_of taken b j) y × (bs ≡ cell_line j x y)
+    (x : List ℕ) × (y : List ℕ) × FoundText lawful word shows (cell_of taken a j) x × FoundText lawful word shows (cell_of taken b j) y × (bs ≡ apart_line (At j) x y)

@@ -1,10 +1,8 @@
 // Where two images first differ.
-ghost use Rattle.std.specs.Prelude.{◌≡◌, true, IfOk, string_bytes, Decides};
+ghost use Rattle.std.specs.Prelude.{◌≡◌, true, Some, IfOk, string_bytes, Decides};
 ghost use Rattle.cells.specs.Banks.{found_lawful};
 ghost use Rattle.images.specs.Images.{hand_of, cell_of};
-ghost use Rattle.images.specs.Layout.{or_nil};
-ghost use Rattle.cells.specs.Shown.{field_text};
-ghost use Rattle.reports.specs.Apart.{FirstApart, Differs, FoundText, hand_line, cell_line, DifferenceLine};
+ghost use Rattle.reports.specs.Apart.{FirstApart, Differs, FoundText, difference_words, apart_line, DifferenceLine};
 
 use cells::leaves::LeafKind;
 use cells::{Cell, Field};
@@ -12,6 +10,7 @@ use dumps::cell_text;
 use images::{cell_of, hand_of};
 use packing::pack_cell;
 use std::alloc::{AllocError, Global};
+use std::fmt;
 use texts::typed::TypedLeaf;
 
 // The first hand that differs, or else the first cell, which one of the images may have and the other not.
@@ -19,6 +18,17 @@ use texts::typed::TypedLeaf;
 pub enum Difference {
     Hand(u8),
     Cell(u16),
+}
+
+impl fmt::Display for Difference {
+    ghost output = { λ d. Some (difference_words d) };
+
+    fn fmt<W: fmt::Write>(&self, f: &mut fmt::Formatter<W>) -> fmt::Result {
+        match *self {
+            Difference::Hand(i) => write!(f, "hand {i}"),
+            Difference::Cell(at) => write!(f, "cell {at}"),
+        }
+    }
 }
 
 fn hand_apart(a: &[u8], b: &[u8]) -> Option<u8>
@@ -67,16 +77,11 @@ fn found_text<V: TypedLeaf>(heap: Global, found: Option<Cell<V>>) -> Result<Stri
     }
 }
 
-fn hand_line(heap: Global, i: u8, x: Field, y: Field) -> Result<String, AllocError>
-    ensures { IfOk result (λ t. string_bytes t ≡ hand_line i (field_text x) (field_text y)) }
+// The line of a difference, where this stands there in the one image and that in the other.
+fn apart_line(heap: Global, at: Difference, x: &str, y: &str) -> Result<String, AllocError>
+    ensures { IfOk result (λ t. string_bytes t ≡ apart_line at x.now y.now) }
 {
-    format!(in heap; "different: hand {i} is {x} in the first and {y} in the second")
-}
-
-fn cell_line(heap: Global, at: u16, x: &str, y: &str) -> Result<String, AllocError>
-    ensures { IfOk result (λ t. string_bytes t ≡ cell_line at x.now y.now) }
-{
-    format!(in heap; "different: cell {at} is {x} in the first and {y} in the second")
+    format!(in heap; "different: {at} is {x} in the first and {y} in the second")
 }
 
 // The line that tells a difference, with what stands there in both images.
@@ -90,14 +95,14 @@ pub fn difference_line<V: TypedLeaf>(
 {
     match difference {
         Difference::Hand(i) => {
-            let x = hand_of(a, i).unwrap_or(Field::Nil);
-            let y = hand_of(b, i).unwrap_or(Field::Nil);
-            hand_line(heap, i, x, y)
+            let x = hand_of(a, i).unwrap_or(Field::Nil).to_string(heap)?;
+            let y = hand_of(b, i).unwrap_or(Field::Nil).to_string(heap)?;
+            apart_line(heap, difference, x.as_str(), y.as_str())
         }
         Difference::Cell(at) => {
             let x = found_text(heap, cell_of::<V>(a, at))?;
             let y = found_text(heap, cell_of::<V>(b, at))?;
-            cell_line(heap, at, x.as_str(), y.as_str())
+            apart_line(heap, Difference::Cell(at), x.as_str(), y.as_str())
         }
     }
 }

@@ -2,7 +2,7 @@
 ghost use Rattle.std.specs.Prelude.{◌≡◌, ℕ, List, IfOk, string_bytes, Option, Result as Answer};
 ghost use Rattle.kinds.specs.InstructionKind.{instruction_text};
 ghost use Rattle.cells.specs.declared.causes.Cause.{Cause as Refusal};
-ghost use Rattle.texts.specs.Typed.{word_bytes, ReadsNumber, ReadsPoint, PointWords, ReadsWhole, ReadsInstruction, InstructionWords, instruction_of};
+ghost use Rattle.texts.specs.Typed.{word_bytes, ReadsPoint, PointWords, ReadsWhole, ReadsInstruction, InstructionWords, instruction_of};
 
 use cells::causes::Cause;
 use cells::leaves::LeafKind;
@@ -29,18 +29,11 @@ pub trait TypedLeaf: LeafKind {
         ensures { IfOk result (λ s. shows self.now (string_bytes s)) };
 }
 
-// One decimal number of a point.
-fn read_number(text: &str) -> Option<f32>
-    ensures { ReadsNumber text.now result }
-{
-    text.parse::<f32>().ok()
-}
-
 fn read_point(load: &str, reading: &str) -> Option<Point>
     ensures { ReadsPoint load.now reading.now result }
 {
-    let load = read_number(load)?;
-    let reading = read_number(reading)?;
+    let load = load.parse::<f32>().ok()?;
+    let reading = reading.parse::<f32>().ok()?;
     Some(Point { load, reading })
 }
 
