@@ -1,5 +1,5 @@
 use Rattle.runs.specs.Rigs.{banks_of, Fits}
 use Rattle.bench_store.proofs.collections.Given as goal
 
-abbrev pub invariant-loop-time : goal.invariant-loop-time
-invariant-loop-time g l = Fits (banks_of g.A.Bank.cells g.B.Bank.cells l.initial.rig) → Fits (banks_of g.A.Bank.cells g.B.Bank.cells l.rig)
+abbrev pub invariant-loop : goal.invariant-loop
+invariant-loop g l = Fits (banks_of g.A.Bank.cells g.B.Bank.cells l.initial.rig) → Fits (banks_of g.A.Bank.cells g.B.Bank.cells l.rig)
