@@ -34,6 +34,7 @@ fn as_read<V: LeafKind>(cell: &Cell<V>) -> Cell<V>
 }
 
 // The lent cell at an address as it reads, none at or past the end.
+#[tactic(auto, using(crate::proofs::LentCells::cell_at_in, crate::proofs::LentCells::cell_at_past))]
 pub fn read_open<V: LeafKind>(lent: &[Cell<V>], at: u16) -> Option<Cell<V>>
     ensures found { result ≡ found_readable V.lawful (cell_at lent.now at) }
 {
@@ -77,10 +78,12 @@ impl<'a, V: LeafKind> Bank<V> for OpenBank<'a, V> {
         self.lent.len()
     }
 
+    #[tactic(auto, using(crate::proofs::LentCells::cell_at_open, crate::proofs::LentCells::readable_lawful))]
     fn read(&self, at: u16) -> Option<Cell<V>> {
         read_open(self.lent, at)
     }
 
+    #[tactic(auto, using(crate::proofs::LentCells::takes_open, crate::proofs::LentCells::open_after))]
     fn put(&mut self, at: u16, cell: &Cell<V>) -> bool {
         put_open(self.lent, at, cell)
     }

@@ -76,14 +76,17 @@ impl<'a, V: LeafKind> Bank<V> for PackedBank<'a> {
 
     ghost root = { λ b. b.lent.ghost_name };
 
+    #[tactic(auto, using(crate::proofs::LentBytes::length_packed))]
     fn size(&self) -> usize {
         size_packed(self.lent)
     }
 
+    #[tactic(auto, using(crate::proofs::LentBytes::cell_at_packed))]
     fn read(&self, at: u16) -> Option<Cell<V>> {
         read_packed(self.lent, at)
     }
 
+    #[tactic(auto, using(crate::proofs::LentBytes::length_packed, crate::proofs::LentBytes::packed_after_lem))]
     fn put(&mut self, at: u16, cell: &Cell<V>) -> bool {
         put_packed(self.lent, at, cell)
     }
