@@ -51,6 +51,7 @@ pub fn put_open<V: LeafKind>(lent: &mut [Cell<V>], at: u16, cell: &Cell<V>) -> b
     if i >= lent.len() || !is_storable(cell) {
         return false;
     }
+    // By index and no `get_mut`, of which no proof was found that the write reaches the cell.
     lent[i] = *cell;
     true
 }
