@@ -178,6 +178,20 @@ fn full_cell<V: LeafKind>(kind: u8, body: u64) -> Option<Cell<V>>
     }
 }
 
+// The cell of a kind's byte and a body. A leaf is made in place: one of small parts is copied slowly in an `Option` of a cell. The arm
+// of `full_cell` for it stays, since all other reads are slower without.
+fn cell_of<V: LeafKind>(kind: u8, body: u64) -> Cell<V>
+    ensures { result ≡ cell_of V.taken kind body }
+{
+    if kind == Kind::Leaf as u8 {
+        return match V::from_word(body) {
+            Some(v) => Cell::Leaf(v),
+            None => Cell::Blank,
+        };
+    }
+    full_cell(kind, body).unwrap_or(Cell::Blank)
+}
+
 // The kind's byte and the body that nine bytes hold.
 fn split_bytes(bytes: [u8; 9]) -> (u8, u64)
     ensures { result ≡ (slice_index bytes 0, body_of bytes) }
@@ -194,5 +208,5 @@ pub fn unpack_cell<V: LeafKind>(bytes: [u8; 9]) -> Cell<V>
     ensures fits { cell_fits result ≡ true }
 {
     let (kind, body) = split_bytes(bytes);
-    full_cell(kind, body).unwrap_or(Cell::Blank)
+    cell_of(kind, body)
 }

@@ -13,10 +13,9 @@ pub returns : goal.returns
 returns g c =
     let laws = g.met.V.LeafKind.laws in
     let bytes = c.args.bytes in
-    let cell = c.unwrap_or.result in
+    let cell = c.cell_of.result in
     let p = c.split_bytes-kind in
-    let made : cell ≡ cell_of g.V.LeafKind.taken p.result.0 p.result.1 = cc (c.unwrap_or.ensures, c.full_cell.ensures) in
-    let unpacked = unpacked_from g.V.LeafKind.taken bytes p.result cell p.ensures made in
+    let unpacked = unpacked_from g.V.LeafKind.taken bytes p.result cell p.ensures c.cell_of.ensures in
     let len : length bytes ≡ 9 = search rules in
     let small : (k : ℕ) → k < 9 → get_or bytes k 0 < 256 = λ k h. search rules in
     record {
