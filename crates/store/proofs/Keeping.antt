@@ -2,6 +2,7 @@
 use Rattle.std.proofs.Common.{◌≡◌, ℕ, zero, suc, ◌-◌, ◌<◌, ◌≤◌, true, false, List, [], ◌∷◌, ◌++◌, length, get_or, take, set, Option, sym, refl, ap, ◌∙◌, subst, arith}
 use Rattle.std.specs.Prelude.{IfSome}
 use Rattle.std.proofs.lemmas.Bool.Decides.{nat_tests}
+use Rattle.std.proofs.lemmas.List.{length-append}
 use Rattle.cells.specs.declared.Field.{Field}
 use Rattle.cells.specs.declared.Field.TheVariants.{Nil}
 use Rattle.store.specs.Fields.{past, below_top}
@@ -37,6 +38,9 @@ keeps_hands n fs gs h f e all inside = ap (hands_below n) e ∙ held_set n fs h 
 
 pub keeps_pushed : (n mark a : ℕ) (xs ys : List ℕ) → ys ≡ pushed a xs → listed_below n xs ≡ true → a < mark → mark ≤ n → listed_below n ys ≡ true
 keeps_pushed n mark a xs ys e all lt le = ap (listed_below n) e ∙ grind (arith, nat_tests, below_append n xs a)
+
+pub keeps_few : (a : ℕ) (xs ys : List ℕ) → ys ≡ pushed a xs → length xs ≤ 16 → length ys ≤ 16
+keeps_few a xs ys e le = let sum = length-append xs (a ∷ []) in grind (arith, nat_tests, ap length e)
 
 pub keeps_popped : (n : ℕ) (xs ys : List ℕ) → ys ≡ below_top xs → listed_below n xs ≡ true → listed_below n ys ≡ true
 keeps_popped n xs ys e all = ap (listed_below n) e ∙ below_take n (length xs - 1) xs all

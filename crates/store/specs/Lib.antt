@@ -4,6 +4,7 @@ pub mod Calls
 pub mod Called
 pub mod Bounds
 pub mod Advances
+pub mod Turns
 pub mod Record
 pub mod Parts
 pub mod Restoring

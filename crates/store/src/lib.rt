@@ -4,6 +4,7 @@
 mod free;
 mod hands;
 pub mod record;
+mod turning;
 pub mod turns;
 
 // What a store is doing. A collecting one holds the steps made, the cells copied and the marks, on which definitions match.

@@ -27,6 +27,7 @@ pub struct Record {
     ghost fits: { size ≤ 32768 },
     ghost marked: { mark ≤ size },
     ghost held: { hands_below size hands.fields ≡ true },
+    ghost few: { length free ≤ 16 },
     ghost below: { listed_below size free ≡ true },
     ghost counted: { counts_within size mode ≡ true },
 }
