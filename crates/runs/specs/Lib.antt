@@ -4,6 +4,5 @@ pub mod Kept
 pub mod Worlds
 pub mod Law
 pub mod Scripts
-pub mod Slots
 pub mod Rigs
 pub mod Replays

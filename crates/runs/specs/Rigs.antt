@@ -9,17 +9,27 @@ use Rattle.store.specs.Record.{view}
 use Rattle.collector.specs.Collections.{Banks}
 use Rattle.collector.specs.Visits.{banks_at}
 use Rattle.runs.specs.declared.keepers.Keeper.{Keeper}
+use Rattle.runs.specs.declared.rigs.InUse.{InUse}
+use Rattle.runs.specs.declared.rigs.InUse.TheVariants.{First, Second}
 use Rattle.runs.specs.declared.rigs.Rig.{Rig}
 use Rattle.runs.specs.Worlds.{world_beside}
-use Rattle.runs.specs.Slots.{slot_cells}
 
 abbrev pub kept_by : Result Keeper Cause → Result Model Cause
 kept_by (Ok k) = Ok (view k.store)
 kept_by (Err c) = Err c
 
+abbrev pub other : InUse → InUse
+other First = Second
+other Second = First
+
+-- two banks as they are in use
+abbrev pub in_use_as : {V : Type 0} → InUse → Model → List (Cell V) → List (Cell V) → Banks V
+in_use_as First m first second = banks_at m first second
+in_use_as Second m first second = banks_at m second first
+
 -- the record and the banks in use, by what the cells of each bank are: the working or old one, and the other one
 abbrev pub banks_of : {V A B : Type 0} → (A → List (Cell V)) → (B → List (Cell V)) → Rig A B → Banks V
-banks_of f g r = banks_at (view r.keeper.store) (slot_cells f g r.working) (slot_cells f g r.spare)
+banks_of f g r = in_use_as r.in_use (view r.keeper.store) (f r.first) (g r.second)
 
 -- the banks in use have the store's size
 pub record Fits {V : Type 0} (b : Banks V) : Type 0 where

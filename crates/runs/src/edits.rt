@@ -12,6 +12,7 @@ use cells::leaves::LeafKind;
 use store::record::Record;
 
 // Makes a call on the store and its working bank.
+#[inline(always)]
 pub fn edit<V: LeafKind, W: Bank<V>>(
     store: &mut Record,
     working: &mut W,

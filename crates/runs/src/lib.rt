@@ -9,7 +9,6 @@ mod keepers;
 pub mod replays;
 pub mod rigs;
 pub mod scripts;
-mod slots;
 
 use cells::leaves::LeafKind;
 

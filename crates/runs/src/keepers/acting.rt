@@ -42,6 +42,7 @@ impl Keeper {
         })
     }
 
+    #[inline(always)]
     pub fn edit<V: LeafKind, W: Bank<V>>(
         &mut self,
         working: &mut W,
