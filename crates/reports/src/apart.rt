@@ -1,6 +1,6 @@
 // Where two images first differ.
 ghost use Rattle.std.specs.Prelude.{◌≡◌, true, Some, IfOk, string_bytes, Decides};
-ghost use Rattle.cells.specs.Banks.{found_lawful};
+ghost use Rattle.cells.specs.Banks.{leaf_lawful, found_lawful};
 ghost use Rattle.images.specs.Images.{hand_of, cell_of};
 ghost use Rattle.reports.specs.Apart.{FirstApart, Differs, FoundText, difference_words, apart_line, DifferenceLine};
 
@@ -8,7 +8,6 @@ use cells::leaves::LeafKind;
 use cells::{Cell, Field};
 use dumps::cell_text;
 use images::{cell_of, hand_of};
-use packing::pack_cell;
 use std::alloc::{AllocError, Global};
 use std::fmt;
 use texts::typed::TypedLeaf;
@@ -37,13 +36,38 @@ fn hand_apart(a: &[u8], b: &[u8]) -> Option<u8>
     (0..16).find(|&i| hand_of(a, i) != hand_of(b, i))
 }
 
-// Whether two cells that may be missing are equal, told by their bytes: a leaf's value need not be comparable.
-fn same_found<V: LeafKind>(x: Option<Cell<V>>, y: Option<Cell<V>>) -> bool
-    requires left { found_lawful V.lawful x ≡ true }
-    requires right { found_lawful V.lawful y ≡ true }
-    ensures { Decides result (x ≡ y) }
+// Whether two cells with lawful leaves are equal, part by part; a leaf by its word, since its value need not be comparable.
+fn same_cell<V: LeafKind>(x: &Cell<V>, y: &Cell<V>) -> bool
+    requires left { leaf_lawful V.lawful x.now ≡ true }
+    requires right { leaf_lawful V.lawful y.now ≡ true }
+    ensures { Decides result (x.now ≡ y.now) }
 {
-    x.as_ref().map(pack_cell) == y.as_ref().map(pack_cell)
+    match (x, y) {
+        (Cell::Blank, Cell::Blank) => true,
+        (Cell::Pair { left, right }, Cell::Pair { left: l, right: r }) => left == l && right == r,
+        (Cell::Leaf(v), Cell::Leaf(w)) => v.to_word() == w.to_word(),
+        (
+            Cell::Moved { forward, source },
+            Cell::Moved {
+                forward: f,
+                source: s,
+            },
+        ) => forward == f && source == s,
+        _ => false,
+    }
+}
+
+// The same of cells that may be missing.
+fn same_found<V: LeafKind>(x: &Option<Cell<V>>, y: &Option<Cell<V>>) -> bool
+    requires left { found_lawful V.lawful x.now ≡ true }
+    requires right { found_lawful V.lawful y.now ≡ true }
+    ensures { Decides result (x.now ≡ y.now) }
+{
+    match (x, y) {
+        (Some(c), Some(d)) => same_cell(c, d),
+        (None, None) => true,
+        _ => false,
+    }
 }
 
 // A loop and no `find`, whose lemmas are about ranges without their end: the last address is the largest number of its type.
@@ -51,7 +75,7 @@ fn cell_apart<V: LeafKind>(a: &[u8], b: &[u8]) -> Option<u16>
     ensures { FirstApart (cell_of V.taken a.now) (cell_of V.taken b.now) 65536 result }
 {
     for at in 0..=u16::MAX {
-        if !same_found(cell_of::<V>(a, at), cell_of::<V>(b, at)) {
+        if !same_found(&cell_of::<V>(a, at), &cell_of::<V>(b, at)) {
             return Some(at);
         }
     }
