@@ -9,7 +9,7 @@ use kinds::instructions::Instruction;
 use kinds::points::Point;
 use packing::{pack_cell, unpack_cell};
 use std::alloc::{AllocError, Global};
-use texts::hex::digit_value;
+use texts::hex::{digit_value, push_hex};
 use texts::typed::TypedLeaf;
 use trials::try_cases;
 
@@ -33,8 +33,9 @@ fn answer<V: TypedLeaf>(heap: Global, bytes: [u8; 9]) -> Result<String, AllocErr
     let cell = unpack_cell::<V>(bytes);
     match cell {
         Cell::Leaf(v) => {
-            let word = v.to_word().unwrap_or(0);
-            format!(in heap; "leaf word {word:016X}")
+            let mut out = String::from_str(heap, "leaf word ")?;
+            push_hex(&mut out, v.to_word().unwrap_or(0), 16)?;
+            Ok(out)
         }
         _ => cell_text(heap, cell),
     }

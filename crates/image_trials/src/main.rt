@@ -82,7 +82,9 @@ fn trial(rt: &HostRuntime, n: usize, line: &str) -> Result<bool> {
 }
 
 fn run(rt: &HostRuntime, name: &str) -> Result<()> {
-    let text = fs::read_to_string(rt, name)?;
+    let Ok(text) = fs::read_to_string(rt, name) else {
+        bail!("{name} cannot be read");
+    };
     let mut agreed: usize = 0;
     let mut tried: usize = 0;
     for line in text.lines() {
@@ -96,7 +98,10 @@ fn run(rt: &HostRuntime, name: &str) -> Result<()> {
 }
 
 fn run_all(rt: &HostRuntime) -> Result<()> {
-    let args: Vec<String> = env::args(rt)?.collect(rt.alloc())?;
+    let Ok(words) = env::args(rt) else {
+        bail!("the words of the command cannot be read");
+    };
+    let args: Vec<String> = words.collect(rt.alloc())?;
     let [_, names @ ..] = args.as_slice() else {
         bail!("the program has no name");
     };

@@ -5,6 +5,7 @@ use cells::leaves::LeafKind;
 use kinds::instructions::Instruction;
 use kinds::points::Point;
 use std::alloc::{AllocError, Global};
+use texts::hex::push_hex;
 use texts::lists::{Entry, read_list};
 use texts::typed::TypedLeaf;
 use trials::try_cases;
@@ -23,8 +24,9 @@ fn answer<V: TypedLeaf>(heap: Global, text: &str) -> Result<String, AllocError> 
 fn answer_of<V: TypedLeaf>(heap: Global, entry: Entry<V>) -> Result<String, AllocError> {
     match entry.value {
         Ok(value) => {
-            let word = value.to_word().unwrap_or(0);
-            format!(in heap; "word {word:016X}")
+            let mut out = String::from_str(heap, "word ")?;
+            push_hex(&mut out, value.to_word().unwrap_or(0), 16)?;
+            Ok(out)
         }
         Err(cause) => {
             let number = cause.number();
